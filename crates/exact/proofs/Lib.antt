@@ -1,0 +1,13 @@
+pub mod Decide
+pub mod Fill
+pub mod Ring
+pub mod Solve
+pub mod Quote
+pub mod Order
+pub mod Linear
+pub mod Sum
+pub mod Range
+pub mod Sign
+pub mod LeastSquares
+pub mod Rounding
+pub mod Modular

@@ -1,0 +1,62 @@
+-- An answer is known by its number, and what a caller learns from a number that several tests gave.
+use mathlib.Core.Path.{_≡_, refl, sym, _∙_, ap}
+use mathlib.Core.Bool.{Bool, true, false, cond}
+use Prim.Native.Nat.{ℕ, zero, suc}
+use native.Mathlib.Omega.{arith}
+use lib.Dec.{eqb}
+use Rattle.verdict.specs.declared.Reason.{Reason}
+use Rattle.verdict.specs.declared.Reason.the-variants.{SheetTooLong, RecordCut, WrongKind, WrongCounts, BytesLeft, Strains, Distance, Vertices, Parent, Children, Edges, Denominator, Numerator, Remainders, Buffer}
+use Rattle.verdict.specs.declared.Verdict.{Verdict}
+use Rattle.verdict.specs.declared.Verdict.the-variants.{Accepted, Refused}
+use Rattle.verdict.specs.Number.{numberOf, refusalOf, test, _orElse_}
+
+-- the refusal that a number stands for
+abbrev reasonOf : ℕ → Reason
+reasonOf k =
+    cond (eqb k 1) SheetTooLong (cond (eqb k 2) RecordCut (cond (eqb k 3) WrongKind (cond (eqb k 4) WrongCounts
+    (cond (eqb k 5) BytesLeft (cond (eqb k 6) Strains (cond (eqb k 7) Distance (cond (eqb k 8) Vertices
+    (cond (eqb k 9) Parent (cond (eqb k 10) Children (cond (eqb k 11) Edges (cond (eqb k 12) Denominator
+    (cond (eqb k 13) Numerator (cond (eqb k 14) Remainders Buffer)))))))))))))
+
+reason-back : (r : Reason) → reasonOf (refusalOf r) ≡ r
+reason-back SheetTooLong = refl
+reason-back RecordCut = refl
+reason-back WrongKind = refl
+reason-back WrongCounts = refl
+reason-back BytesLeft = refl
+reason-back Strains = refl
+reason-back Distance = refl
+reason-back Vertices = refl
+reason-back Parent = refl
+reason-back Children = refl
+reason-back Edges = refl
+reason-back Denominator = refl
+reason-back Numerator = refl
+reason-back Remainders = refl
+reason-back Buffer = refl
+
+abbrev answerOf : ℕ → Verdict
+answerOf zero = Accepted
+answerOf (suc k) = Refused (reasonOf (suc k))
+
+answer-back : (v : Verdict) → answerOf (numberOf v) ≡ v
+answer-back Accepted = refl
+answer-back (Refused SheetTooLong) = refl
+answer-back (Refused RecordCut) = refl
+answer-back (Refused WrongKind) = refl
+answer-back (Refused WrongCounts) = refl
+answer-back (Refused BytesLeft) = refl
+answer-back (Refused Strains) = refl
+answer-back (Refused Distance) = refl
+answer-back (Refused Vertices) = refl
+answer-back (Refused Parent) = refl
+answer-back (Refused Children) = refl
+answer-back (Refused Edges) = refl
+answer-back (Refused Denominator) = refl
+answer-back (Refused Numerator) = refl
+answer-back (Refused Remainders) = refl
+answer-back (Refused Buffer) = refl
+
+-- two answers with one number are the same answer
+pub same-answer : (v w : Verdict) → numberOf v ≡ numberOf w → v ≡ w
+same-answer v w e = sym (answer-back v) ∙ ap answerOf e ∙ answer-back w
