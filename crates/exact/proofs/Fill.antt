@@ -1,14 +1,15 @@
 -- A list that a loop fills from the front: below i it is f, and from i on it is still g. `fill-none` starts it, `fill-more` is
--- one turn, `filled-whole` and `filled-table` say what it is in the end.
+-- one turn, `filled-whole` says what it is in the end, and `table-is` that it is then a table.
+-- `copy-start`, `copy-turn` and `copy-end` are the whole of a loop that copies a slice into an array.
 use mathlib.Core.Path.{_≡_, refl, sym, ap, _∙_}
-use mathlib.Core.List.{List, [], _∷_}
+use mathlib.Core.List.{List}
 use Prim.Native.Nat.{ℕ, zero, suc, _+_, _<_, _≤_}
 use native.Mathlib.Omega.{arith}
 use borrow.Author.Count.{below-none, below-more}
 use native.Mathlib.Decide.{decLt}
 use Rattle.exact.proofs.Decide.{by-cases}
 use Rattle.exact.specs.Table.{tableFrom, table}
-use lib.ListN.{length, set, getD, replicate}
+use lib.ListN.{length, set, getD, length-set, List·getD-eq-default}
 use lib.Seq.{getD-set-same, getD-set-other, ext-getD}
 
 pub record Filled {A : Type 0} (d : A) (f g : ℕ → A) (i : ℕ) (l : List A) : Type 0 where
@@ -28,11 +29,6 @@ fill-more {A} d f g i l v h e p = record {
 pub filled-whole : {A : Type 0} (d : A) (f g : ℕ → A) (n : ℕ) (l : List A) → Filled d f g n l → ((k : ℕ) → n ≤ k → g k ≡ f k) → (k : ℕ) → getD l k d ≡ f k
 filled-whole d f g n l p h k = by-cases (decLt k n) (p .below k) (λ ge. p .above k (omega arith) ∙ h k (omega arith))
 
-pub getD-replicate-same : {A : Type 0} (n : ℕ) (a : A) (k : ℕ) → getD (replicate n a) k a ≡ a
-getD-replicate-same zero a k = refl
-getD-replicate-same (suc n) a zero = refl
-getD-replicate-same (suc n) a (suc k) = getD-replicate-same n a k
-
 table-length : {A : Type 0} (i n : ℕ) (f : ℕ → A) → length (tableFrom i n f) ≡ n
 unfolding tableFrom
 table-length i zero f = refl
@@ -50,7 +46,37 @@ length-table n f = table-length 0 n f
 pub getD-table : {A : Type 0} (n : ℕ) (f : ℕ → A) (d : A) (k : ℕ) → k < n → getD (table n f) k d ≡ f k
 getD-table n f d k h = table-at 0 n f d k h ∙ ap f (omega arith)
 
--- a list of n entries that is filled to n is the table
-pub filled-table : {A : Type 0} (d : A) (f g : ℕ → A) (n : ℕ) (l : List A) → length l ≡ n → Filled d f g n l → l ≡ table n f
-filled-table d f g n l e p =
-    ext-getD d l (table n f) (e ∙ sym (length-table n f)) (λ i h. p .below i (omega arith) ∙ sym (getD-table n f d i (omega arith)))
+-- a list of n entries is the table of them
+pub table-is : {A : Type 0} (d : A) (f : ℕ → A) (n : ℕ) (l : List A) → length l ≡ n → ((k : ℕ) → k < n → getD l k d ≡ f k) → l ≡ table n f
+table-is d f n l e h =
+    ext-getD d l (table n f) (e ∙ sym (length-table n f)) (λ i lt. h i (omega arith) ∙ sym (getD-table n f d i (omega arith)))
+
+-- past the end of a table of one value, too, that value is read
+pub getD-table-const : {A : Type 0} (n : ℕ) (a : A) (k : ℕ) → getD (table n (λ _. a)) k a ≡ a
+getD-table-const n a k = by-cases (decLt k n) (getD-table n (λ _. a) a k)
+    (λ ge. List·getD-eq-default (table n (λ _. a)) a (omega (arith, length-table n (λ _. a))))
+
+-- ---- a copy into an array: the first k entries of xs have been copied into one of `room` entries that held d everywhere
+pub record Copying {A : Type 0} (d : A) (room : ℕ) (xs : List A) (k : ℕ) (kept : List A) : Type 0 where
+  pub few : k ≤ length xs
+  pub size : length kept ≡ room
+  pub filled : Filled d (λ i. getD xs i d) (λ _. d) k kept
+
+module _ {A : Type 0} (d : A) (room : ℕ) (xs : List A) where
+  pub copy-start : (kept : List A) → kept ≡ table room (λ _. d) → Copying d room xs 0 kept
+  copy-start kept e = record {
+    few = omega arith;
+    size = ap length e ∙ length-table room (λ _. d);
+    filled = fill-none d _ _ kept (λ k. ap (λ l. getD l k d) e ∙ getD-table-const room d k);
+  }
+
+  pub copy-turn : (k : ℕ) (kept : List A) (v : A) → k < length xs → length xs ≤ room → v ≡ getD xs k d → Copying d room xs k kept → Copying d room xs (k + 1) (set kept k v)
+  copy-turn k kept v h r e c = record {
+    few = omega arith;
+    size = simp length-set (c .size);
+    filled = fill-more d _ _ k kept v (omega (arith, c .size)) e (c .filled);
+  }
+
+  pub copy-end : (k : ℕ) (kept : List A) → length xs ≤ k → Copying d room xs k kept → kept ≡ table room (λ i. getD xs i d)
+  copy-end k kept h c = table-is d (λ i. getD xs i d) room kept (c .size)
+      (λ i _. filled-whole d _ _ k kept (c .filled) (λ j l. sym (List·getD-eq-default xs d (omega arith))) i)

@@ -3,8 +3,8 @@
 --   D²·X = Q²·Σr² + 2·Q·cross(Q·n - D·x) + Σ path(Q·n - D·x)²,
 -- since D·(Q·d - path(x)) = Q·r + path(Q·n - D·x). Exchanging the two sums, cross(x) = Σ x_v·(edge v's sum of remainders), so
 -- the equations make it 0, and K7's conditions make it 0 at n and m and never positive elsewhere.
-use mathlib.Core.Path.{_≡_, refl, sym, _∙_, ap, ap₂, subst, subst₂}
-use mathlib.Core.List.{List, [], _∷_}
+use mathlib.Core.Path.{_≡_, sym, _∙_, ap, ap₂, subst, subst₂}
+use mathlib.Core.List.{[], _∷_}
 use mathlib.Core.Bool.{Bool}
 use mathlib.Core.Logic.{_⊎_, inl, inr}
 use Prim.Native.Nat.{ℕ, _<_}
@@ -15,7 +15,7 @@ use Rattle.exact.specs.Sum.{sum, ind, Sums}
 use Rattle.exact.specs.LeastSquares.{sq, path, hops, remainder, edgeSum, Equations, sumF, sumX, sumR, sumH, Near, Minimum, Rounding, Any, NotNegative, Conditions}
 use Rattle.exact.proofs.Ring.{*ℤ-left-comm}
 use Rattle.exact.proofs.Quote.{by-ring, quote}
-use Rattle.exact.proofs.Order.{nn+, nn*, nn-pos, nn-sq, nn-sub, le-by, *-cancel, sq-pos, ≤-of-≡, ≤-antisym, ≤-trans, <-is, is-<, total}
+use Rattle.exact.proofs.Order.{nn+, nn*, nn-pos, nn-sq, nn-sub, le-by, *-cancel, sq-pos, ≤-of-≡, ≤-antisym, ≤-trans, <-is, total}
 use Rattle.exact.proofs.Linear.{lin, le→, →le, d-atom}
 use Rattle.exact.proofs.Range.{within-sq, within-weighted}
 use Rattle.exact.proofs.Sum.{sum-cong, sum-+, sum-*, sum-zero, sum-nn, sum-neg, S-cong, S-swap, S-lin, S-mono, S-expand, S-sq, ind-nn}

@@ -2,16 +2,16 @@
 -- A bound that is not linear is proved by a certificate: `le-by c e` shows a ≤ b from c : 0 ≤ s and e : b - a ≡ s, where c is
 -- made of `nn+`, `nn*`, `nn-sq`, `nn-pos`, `nn-sub` and e is a `by-ring`. Linear bounds are for `Linear`.
 use mathlib.Core.Path.{_≡_, refl, sym, _∙_, ap, ap₂, subst}
-use mathlib.Core.Bool.{Bool, true, false, not}
-use mathlib.Core.List.{List, [], _∷_}
+use mathlib.Core.Bool.{Bool, true, false}
+use mathlib.Core.List.{[], _∷_}
 use mathlib.Core.Logic.{_⊎_, inl, inr}
 use Prim.Native.Nat.{ℕ, zero, suc, _+_, _*_, _≤_, _<_, suc-le-suc}
 use native.Mathlib.Nat.{le-antisymm as le-antisym}
-use lib.Dec.{T, leb, ltb, ltb→lt, leb·zero, leb·suc-zero, leb·suc-suc, leb→le, le→leb}
+use lib.Dec.{ltb→lt, leb·zero, leb·suc-zero, leb·suc-suc, leb→le, le→leb}
 use lib.IntN.{ℤ, pos, negsuc, negℤ, sucℤ, predℤ, suc-pred, _+ℤ_, _-ℤ_, _*ℤ_, +ℤ-idl, +ℤ-idr, +ℤ-one, +ℤ-comm, sucℤ-+ℤ, predℤ-+ℤ}
-use lib.Signed.{mag, leZ, ltZ, _≤ℤ_, _<ℤ_, ≤ℤ-refl, ltZ-no, <ℤ-≤ℤ-trans, clashℤ}
+use lib.Signed.{mag, leZ, ltZ, _≤ℤ_, ≤ℤ-refl, ltZ-no, clashℤ}
 use Rattle.exact.specs.Order.{_≤ᶻ_, _<ᶻ_}
-use Rattle.exact.proofs.Ring.{by-steps, ring}
+use Rattle.exact.proofs.Ring.{by-steps}
 use Rattle.exact.proofs.Quote.{by-ring, quote}
 
 leZ-suc : (a b : ℤ) → leZ (sucℤ a) (sucℤ b) ≡ leZ a b

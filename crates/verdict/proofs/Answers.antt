@@ -1,9 +1,9 @@
 -- An answer is known by its number, and what a caller learns from a number that several tests gave.
-use mathlib.Core.Path.{_≡_, refl, sym, _∙_, ap}
-use mathlib.Core.Bool.{Bool, true, false, cond}
+use mathlib.Core.Path.{_≡_, refl, sym, _∙_, ap, subst}
+use mathlib.Core.Bool.{Bool, true, false, cond, _||_}
 use Prim.Native.Nat.{ℕ, zero, suc}
 use native.Mathlib.Omega.{arith}
-use lib.Dec.{eqb}
+use lib.Dec.{T, eqb}
 use Rattle.verdict.specs.declared.Reason.{Reason}
 use Rattle.verdict.specs.declared.Reason.the-variants.{SheetTooLong, RecordCut, WrongKind, WrongCounts, BytesLeft, Strains, Distance, Vertices, Parent, Children, Edges, Denominator, Numerator, Remainders, Buffer}
 use Rattle.verdict.specs.declared.Verdict.{Verdict}
@@ -60,3 +60,28 @@ answer-back (Refused Buffer) = refl
 -- two answers with one number are the same answer
 pub same-answer : (v w : Verdict) → numberOf v ≡ numberOf w → v ≡ w
 same-answer v w e = sym (answer-back v) ∙ ap answerOf e ∙ answer-back w
+
+-- ---- what a number tells of the tests behind it
+-- several give 0 exactly where each does
+pub orElse-zero : (a b : ℕ) → (a orElse b) ≡ 0 → (a ≡ 0) × (b ≡ 0)
+orElse-zero zero b e = (refl, e)
+orElse-zero (suc a) b e = absurd (omega arith)
+
+pub zero-orElse : {a b : ℕ} → a ≡ 0 → b ≡ 0 → (a orElse b) ≡ 0
+zero-orElse e f = rw (e, f)
+
+-- a test gives 0 exactly where it does not apply
+pub test-zero : (k : ℕ) (b : Bool) → test (suc k) b ≡ 0 → b ≡ false
+test-zero k true e = absurd (omega arith)
+test-zero k false e = refl
+
+pub zero-test : (k : ℕ) {b : Bool} → b ≡ false → test k b ≡ 0
+zero-test k e = rw e
+
+-- neither of two faults
+pub or-none : (a b : Bool) → (a || b) ≡ false → (a ≡ false) × (b ≡ false)
+or-none true b e = absurd (subst T e tt)
+or-none false b e = (refl, e)
+
+pub none-or : {a b : Bool} → a ≡ false → b ≡ false → (a || b) ≡ false
+none-or e f = rw (e, f)

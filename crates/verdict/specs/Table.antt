@@ -1,5 +1,5 @@
 -- Tests over the entries of a table, and how many entries pass one.
-use mathlib.Core.Bool.{Bool, true, false, _||_, cond}
+use mathlib.Core.Bool.{Bool, false, _||_, cond}
 use Prim.Native.Nat.{ℕ, zero, suc, _+_}
 
 -- some i below n is at fault

@@ -1,0 +1,3 @@
+pub mod Answered
+pub mod Checked
+pub mod Settled

@@ -1,0 +1,29 @@
+-- What `Lengths::new` hands back beside its answer: the lengths, or none where they are refused.
+use mathlib.Core.Path.{_≡_}
+use mathlib.Core.List.{List}
+use Prim.Native.Nat.{ℕ}
+use lib.IntN.{ℤ, pos}
+use lib.ListN.{length, getD}
+use Rattle.exact.specs.Table.{table}
+use Rattle.verdict.specs.Number.{numberOf}
+use Rattle.lengths.specs.declared.Lengths.{Lengths}
+use Rattle.lengths.specs.declared.Proposed.{Proposed}
+use Rattle.lengths.specs.Tests.{lengthsNumber}
+
+-- lengths that passed: the numerators, followed by zeros
+pub record Held (D : ℕ) (ns : List ℤ) (l : Lengths) : Type 0 where
+  pub denominator : l .denominator ≡ D
+  pub edges : l .edges ≡ length ns
+  pub numerators : l .numerators ≡ table 125 (λ v. getD ns v (pos 0))
+
+-- no denominator, no edges, zeros
+pub record None (l : Lengths) : Type 0 where
+  pub denominator : l .denominator ≡ 0
+  pub edges : l .edges ≡ 0
+  pub numerators : l .numerators ≡ table 125 (λ _. pos 0)
+
+-- the whole answer
+pub record LengthsAnswer (edges D : ℕ) (ns : List ℤ) (r : Proposed) : Type 0 where
+  pub number : numberOf (r .verdict) ≡ lengthsNumber edges D ns
+  pub held : lengthsNumber edges D ns ≡ 0 → Held D ns (r .lengths)
+  pub none : (lengthsNumber edges D ns ≡ 0 → ⊥) → None (r .lengths)

@@ -1,0 +1,14 @@
+-- The limits of proposed lengths. `stated_limits` in src/lib.rt is proved to return these and the constants of `Lengths`.
+use Prim.Native.Nat.{ℕ}
+
+-- denominator: 1 to 1,000,000
+abbrev pub maxDenominator : ℕ
+maxDenominator = 1000000
+
+-- numerators: -100,000,000,000 to 100,000,000,000
+abbrev pub maxNumerator : ℕ
+maxNumerator = 100000000000
+
+-- no allowed tree has more edges: 2·64 - 3
+abbrev pub maxEdges : ℕ
+maxEdges = 125

@@ -1,0 +1,26 @@
+-- The tests of proposed lengths, in document 01's order, beside a tree with the given number of edges.
+use mathlib.Core.Bool.{Bool, not, _||_}
+use mathlib.Core.List.{List}
+use Prim.Native.Nat.{ℕ}
+use lib.Dec.{eqb, ltb}
+use lib.IntN.{ℤ, pos, natAbs}
+use lib.ListN.{length, getD}
+use Rattle.verdict.specs.Number.{test, _orElse_}
+use Rattle.verdict.specs.Table.{some}
+use Rattle.lengths.specs.Limits.{maxDenominator, maxNumerator, maxEdges}
+
+-- 11: K, the count of numerators, not V - 1. No allowed tree has more than 125 edges, so more are refused here too.
+abbrev pub edgesOut : ℕ → List ℤ → Bool
+edgesOut edges ns = not (eqb (length ns) edges) || ltb maxEdges edges
+
+-- 12: D not 1 to 1,000,000
+abbrev pub denominatorOut : ℕ → Bool
+denominatorOut D = ltb D 1 || ltb maxDenominator D
+
+-- 13: a numerator beyond its range
+abbrev pub numeratorOut : List ℤ → Bool
+numeratorOut ns = some (length ns) (λ v. ltb maxNumerator (natAbs (getD ns v (pos 0))))
+
+-- the number that a proposal gets
+abbrev pub lengthsNumber : ℕ → ℕ → List ℤ → ℕ
+lengthsNumber edges D ns = test 11 (edgesOut edges ns) orElse test 12 (denominatorOut D) orElse test 13 (numeratorOut ns)

@@ -1,0 +1,4 @@
+pub mod Places
+pub mod Answered
+pub mod Checked
+pub mod Settled

@@ -1,0 +1,5 @@
+pub mod Limits
+pub mod Place
+pub mod Tests
+pub mod Kept
+pub mod Proper

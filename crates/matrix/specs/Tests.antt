@@ -1,0 +1,26 @@
+-- The tests of a matrix, in document 01's order.
+use mathlib.Core.Bool.{Bool, not, _||_}
+use mathlib.Core.List.{List}
+use Prim.Native.Nat.{ℕ}
+use lib.Dec.{eqb, ltb}
+use lib.ListN.{length, getD}
+use Rattle.verdict.specs.Number.{test, _orElse_}
+use Rattle.verdict.specs.Table.{some}
+use Rattle.matrix.specs.Limits.{minStrains, maxStrains, maxDistance}
+use Rattle.matrix.specs.Place.{pairCount}
+
+-- 4: entries not N(N-1)/2
+abbrev pub countOut : ℕ → List ℕ → Bool
+countOut N ds = not (eqb (length ds) (pairCount N))
+
+-- 6: N not 3 to 64
+abbrev pub strainsOut : ℕ → Bool
+strainsOut N = ltb N minStrains || ltb maxStrains N
+
+-- 7: a distance above 50,000
+abbrev pub distanceOut : List ℕ → Bool
+distanceOut ds = some (length ds) (λ k. ltb maxDistance (getD ds k 0))
+
+-- the number that a matrix gets
+abbrev pub matrixNumber : ℕ → List ℕ → ℕ
+matrixNumber N ds = test 4 (countOut N ds) orElse test 6 (strainsOut N) orElse test 7 (distanceOut ds)

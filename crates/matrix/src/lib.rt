@@ -1,0 +1,142 @@
+// The matrix of distances: its limits, its tests, and where a pair of strains stands.
+use verdict::Reason;
+use verdict::Verdict;
+ghost use mathlib.Core.Path.{_≡_};
+ghost use Prim.Native.Nat.{_≤_, _<_};
+ghost use lib.ListN.{length, getD};
+ghost use Rattle.exact.specs.Table.{table};
+ghost use Rattle.matrix.specs.Limits.{minStrains, maxStrains, maxDistance};
+ghost use Rattle.matrix.specs.Place.{pairCount, place};
+ghost use Rattle.matrix.specs.Tests.{distanceOut};
+ghost use Rattle.matrix.specs.Kept.{Blank, MatrixAnswer};
+
+// The distances between n strains, in the order 01, 02, .., 0(n-1), 12, 13, .., then zeros.
+pub struct Matrix {
+    pub n: usize,
+    pub distances: [u16; Matrix::MAX_PAIRS],
+}
+
+// What a lent matrix gets: the answer, and the matrix where it is accepted.
+pub struct Measured {
+    pub verdict: Verdict,
+    pub matrix: Matrix,
+}
+
+impl Matrix {
+    pub const MIN_STRAINS: usize = 3;
+
+    pub const MAX_STRAINS: usize = 64;
+
+    pub const MAX_DISTANCE: u16 = 50_000;
+    // As many pairs as the most strains have.
+    pub const MAX_PAIRS: usize = Matrix::MAX_STRAINS * (Matrix::MAX_STRAINS - 1) / 2;
+
+    // 4, 6, 7, the first that applies, for any n and any slice. A refusal carries no strains and zeros.
+    pub fn new(n: u32, distances: &[u16]) -> Measured
+        ensures { λ r. ⌜ MatrixAnswer n (now (distances .entry)) r ⌝ }
+    {
+        if distances.len() as u64 != pair_count(n) {
+            return refused(Reason::WrongCounts);
+        }
+        let strains = n as usize;
+        if strains < Matrix::MIN_STRAINS {
+            return refused(Reason::Strains);
+        }
+        if strains > Matrix::MAX_STRAINS {
+            return refused(Reason::Strains);
+        }
+        if some_distance_out(distances) {
+            return refused(Reason::Distance);
+        }
+        Measured {
+            verdict: Verdict::Accepted,
+            matrix: Matrix {
+                n: strains,
+                distances: copied(distances),
+            },
+        }
+    }
+}
+
+// The limits as the code has them; the contract says that the definitions have the same.
+pub struct Limits {
+    pub fewest: usize,
+    pub most: usize,
+    pub farthest: u16,
+}
+
+pub fn stated_limits() -> Limits
+    ensures { λ r. ⌜ (r .fewest ≡ minStrains) × (r .most ≡ maxStrains) × (r .farthest ≡ maxDistance) ⌝ }
+{
+    Limits {
+        fewest: Matrix::MIN_STRAINS,
+        most: Matrix::MAX_STRAINS,
+        farthest: Matrix::MAX_DISTANCE,
+    }
+}
+
+// How many pairs n strains have. Exact for every n: the product of two u32 fits a u64.
+pub fn pair_count(n: u32) -> u64
+    ensures { λ r. ⌜ r ≡ pairCount n ⌝ }
+{
+    if n == 0 {
+        return 0;
+    }
+    let strains = n as u64;
+    strains * (strains - 1) / 2
+}
+
+// Where the pair i j stands among the distances of n strains.
+pub fn place(n: usize, i: usize, j: usize) -> usize
+    requires { ⌜ (i < j) × (j < n) × (n ≤ maxStrains) ⌝ }
+    ensures { λ r. ⌜ r ≡ place n i j ⌝ }
+{
+    i * (2 * n - i - 1) / 2 + (j - i - 1)
+}
+
+// Some distance is above its limit.
+fn some_distance_out(distances: &[u16]) -> bool
+    ensures { λ r. ⌜ r ≡ distanceOut (now (distances .entry)) ⌝ }
+{
+    let mut k = 0;
+    while k < distances.len() {
+        if distances[k] > Matrix::MAX_DISTANCE {
+            return true;
+        }
+        k += 1;
+    }
+    false
+}
+
+fn zeros() -> [u16; Matrix::MAX_PAIRS]
+    ensures { λ r. ⌜ r ≡ table 2016 (λ _. 0) ⌝ }
+{
+    [0; Matrix::MAX_PAIRS]
+}
+
+// The distances, then zeros.
+fn copied(distances: &[u16]) -> [u16; Matrix::MAX_PAIRS]
+    requires { ⌜ length (now distances) ≤ 2016 ⌝ }
+    ensures { λ r. ⌜ r ≡ table 2016 (λ k. getD (now (distances .entry)) k 0) ⌝ }
+{
+    let mut kept = zeros();
+    let mut k = 0;
+    while k < distances.len() {
+        kept[k] = distances[k];
+        k += 1;
+    }
+    kept
+}
+
+// A refusal, with the blank matrix.
+fn refused(reason: Reason) -> Measured
+    ensures { λ r. ⌜ (r .verdict ≡ Verdict.Refused reason) × Blank (r .matrix) ⌝ }
+{
+    Measured {
+        verdict: Verdict::Refused(reason),
+        matrix: Matrix {
+            n: 0,
+            distances: zeros(),
+        },
+    }
+}
