@@ -1,5 +1,5 @@
 // Proposed lengths: a denominator and a numerator for each edge, their limits and their tests.
-use matrix::Matrix;
+use tree::Tree;
 use verdict::Reason;
 use verdict::Verdict;
 ghost use mathlib.Core.Path.{_≡_};
@@ -15,7 +15,7 @@ ghost use Rattle.lengths.specs.Kept.{None, LengthsAnswer};
 pub struct Lengths {
     pub denominator: u32,
     pub edges: usize,
-    pub numerators: [i64; Lengths::MAX_EDGES],
+    pub numerators: [i64; Tree::MAX_EDGES],
 }
 
 // What a proposal gets: the answer, and the lengths where it is accepted.
@@ -28,8 +28,6 @@ impl Lengths {
     pub const MAX_DENOMINATOR: u32 = 1_000_000;
     // How far a numerator may be from 0.
     pub const MAX_NUMERATOR: u64 = 100_000_000_000;
-    // As many edges as a tree of the most strains has at most.
-    pub const MAX_EDGES: usize = 2 * Matrix::MAX_STRAINS - 3;
 
     // 11, 12, 13, the first that applies, for any count of edges, any d and any slice. A refusal carries
     // no edges and zeros.
@@ -39,7 +37,7 @@ impl Lengths {
         if numerators.len() != edges {
             return refused(Reason::Edges);
         }
-        if edges > Lengths::MAX_EDGES {
+        if edges > Tree::MAX_EDGES {
             return refused(Reason::Edges);
         }
         if d < 1 {
@@ -75,7 +73,7 @@ pub fn stated_limits() -> Limits
     Limits {
         denominator: Lengths::MAX_DENOMINATOR,
         numerator: Lengths::MAX_NUMERATOR,
-        edges: Lengths::MAX_EDGES,
+        edges: Tree::MAX_EDGES,
     }
 }
 
@@ -93,14 +91,14 @@ fn some_numerator_out(numerators: &[i64]) -> bool
     false
 }
 
-fn zeros() -> [i64; Lengths::MAX_EDGES]
+fn zeros() -> [i64; Tree::MAX_EDGES]
     ensures { λ r. ⌜ r ≡ table 125 (λ _. pos 0) ⌝ }
 {
-    [0; Lengths::MAX_EDGES]
+    [0; Tree::MAX_EDGES]
 }
 
 // The numerators, then zeros.
-fn copied(numerators: &[i64]) -> [i64; Lengths::MAX_EDGES]
+fn copied(numerators: &[i64]) -> [i64; Tree::MAX_EDGES]
     requires { ⌜ length (now numerators) ≤ 125 ⌝ }
     ensures { λ r. ⌜ r ≡ table 125 (λ v. getD (now (numerators .entry)) v (pos 0)) ⌝ }
 {

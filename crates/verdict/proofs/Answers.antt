@@ -61,6 +61,10 @@ answer-back (Refused Buffer) = refl
 pub same-answer : (v w : Verdict) → numberOf v ≡ numberOf w → v ≡ w
 same-answer v w e = sym (answer-back v) ∙ ap answerOf e ∙ answer-back w
 
+-- no refusal has the number of what is accepted
+pub not-zero : (r : Reason) → numberOf (Refused r) ≡ 0 → ⊥
+not-zero r e = let p : Refused r ≡ Accepted = same-answer (Refused r) Accepted e in let z : _≡_ {A = ℕ} 0 1 = cc in omega arith
+
 -- ---- what a number tells of the tests behind it
 -- several give 0 exactly where each does
 pub orElse-zero : (a b : ℕ) → (a orElse b) ≡ 0 → (a ≡ 0) × (b ≡ 0)

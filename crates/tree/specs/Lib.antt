@@ -1,0 +1,6 @@
+pub mod Chain
+pub mod Allowed
+pub mod Tests
+pub mod Cluster
+pub mod Kept
+pub mod Way
