@@ -7,6 +7,7 @@ pub mod Order
 pub mod Linear
 pub mod Sum
 pub mod Range
+pub mod Sweep
 pub mod Sign
 pub mod LeastSquares
 pub mod Rounding

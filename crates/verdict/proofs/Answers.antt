@@ -74,6 +74,14 @@ orElse-zero (suc a) b e = absurd (omega arith)
 pub zero-orElse : {a b : ℕ} → a ≡ 0 → b ≡ 0 → (a orElse b) ≡ 0
 zero-orElse e f = rw (e, f)
 
+-- a refusal comes first
+pub first-refusal : (r : Reason) (m : ℕ) → (refusalOf r orElse m) ≡ refusalOf r
+first-refusal r m = keeps (refusalOf r) (not-zero r)
+  where
+    keeps : (k : ℕ) → (k ≡ 0 → ⊥) → (k orElse m) ≡ k
+    keeps zero h = absurd (h refl)
+    keeps (suc k) h = refl
+
 -- a test gives 0 exactly where it does not apply
 pub test-zero : (k : ℕ) (b : Bool) → test (suc k) b ≡ 0 → b ≡ false
 test-zero k true e = absurd (omega arith)

@@ -1,7 +1,7 @@
 // The answer that every test of a sheet, a table or a buffer gives. `numberOf`, in specs/Number.antt,
 // says which of document 01's numbers each case stands for; contracts speak of answers through it.
 ghost use mathlib.Core.Path.{_≡_};
-ghost use Rattle.verdict.specs.Number.{numberOf};
+ghost use Rattle.verdict.specs.Number.{numberOf, _orElse_};
 
 // Why something is refused: a case for each of document 01's numbers of refusal, in its order.
 pub enum Reason {
@@ -50,5 +50,15 @@ pub fn number(v: Verdict) -> u32
             Reason::Remainders => 14,
             Reason::Buffer => 15,
         },
+    }
+}
+
+// The first of two answers that is a refusal.
+pub fn or_else(a: Verdict, b: Verdict) -> Verdict
+    ensures { λ r. ⌜ numberOf r ≡ (numberOf a orElse numberOf b) ⌝ }
+{
+    match a {
+        Verdict::Accepted => b,
+        Verdict::Refused(reason) => Verdict::Refused(reason),
     }
 }

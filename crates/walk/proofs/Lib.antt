@@ -1,0 +1,5 @@
+pub mod Climb
+pub mod Bounds
+pub mod Adding
+pub mod Counting
+pub mod Marking

@@ -1,0 +1,83 @@
+-- `edges_one_way`: as `one_way`, over entries that are all 1. The count is at most the vertex, since each step goes up.
+use mathlib.Core.Path.{_≡_, _∙_}
+use Prim.Native.Nat.{_-_, _≤_}
+use native.Mathlib.Omega.{arith}
+use lib.IntN.{pos}
+use borrow.Author.Needs.{needs}
+use Rattle.tree.specs.Chain.{parentOf}
+use Rattle.walk.proofs.Climb.{Stands, Off, few-edges, met, not-met, stands-start, stands-next}
+use Rattle.walk.proofs.Adding.{added, added-start, added-all}
+use Rattle.walk.proofs.Counting.{ones, count-more}
+use Rattle.walk.proofs.edges_one_way.Statement.{statement}
+use Rattle.walk.proofs.edges_one_way.Tie as tie
+use Rattle.walk.proofs.edges_one_way.Reads as reads
+use Rattle.walk.proofs.edges_one_way.Lts as lts
+
+abbrev Inv-loop : tie.InvT-loop
+Inv-loop n edges parents clusters i j count₀ at₀ count at = Stands edges (parentOf parents) i at × (count ≤ at) × (pos count ≡ added (parentOf parents) edges ones i j at)
+
+abbrev μ-loop : tie.MeasureT-loop
+μ-loop n edges parents clusters i j count₀ at₀ count at = edges - at
+
+-- the climb goes on: it does not stand above j
+here : (c : lts.Then1 reads.Pre reads.Post Inv-loop μ-loop) → let l = c .before .before in let p = l .before in
+    Off (p .args .edges) (parentOf (p .args .parents .now)) (p .args .j) (l .loop .at)
+here c = let l = c .before .before in let p = l .before in not-met (p .pre .0) (p .args .j) (l .loop .at) (p .pre .1 .1) (l .loop .inv .0 .on) (c .if1 .taken)
+
+loop-holds : tie.Need-loop-holds Inv-loop μ-loop
+loop-holds c = let S = c .pre .0 in
+    (stands-start S (c .args .i) (c .pre .1 .0), omega arith, added-start (parentOf (c .args .parents .now)) (c .args .edges) (S .allowed .up) ones (c .args .i) (c .args .j))
+
+mul-if1 : tie.Need-mul-if1 Inv-loop μ-loop
+mul-if1 c = search needs
+
+element-copy-out-if1 : tie.Need-element-copy-out-if1 Inv-loop μ-loop
+element-copy-out-if1 c = search needs
+
+shr-if1 : tie.Need-shr-if1 Inv-loop μ-loop
+shr-if1 c = search needs
+
+add-count : tie.Need-add-count Inv-loop μ-loop
+add-count c = omega (arith, here c .edge, few-edges (c .before .before .before .pre .0))
+
+element-copy-out-at : tie.Need-element-copy-out-at Inv-loop μ-loop
+element-copy-out-at c = omega (arith, here c .edge, few-edges (c .before .before .before .pre .0))
+
+cast-at : tie.Need-cast-at Inv-loop μ-loop
+cast-at c = omega (arith, here (c .before) .top, few-edges (c .before .before .before .before .pre .0))
+
+loop-less : tie.Need-loop-less Inv-loop μ-loop
+loop-less c = omega (arith, here (c .before) .up, here (c .before) .edge)
+
+loop-again : tie.Need-loop-again Inv-loop μ-loop
+loop-again c = let l = c .before .before .before in
+    let p = l .before in
+    let o = here (c .before) in (
+      stands-next (p .pre .0) (p .args .i) (p .args .j) (l .loop .at) (l .loop .inv .0) o,
+      omega (arith, o .up),
+      count-more (parentOf (p .args .parents .now)) (p .args .edges) (p .pre .0 .allowed .up) (p .args .i) (p .args .j) (l .loop .at) (l .loop .count) o (l .loop .inv .2),
+    )
+
+returns : tie.Need-returns Inv-loop μ-loop
+returns c = let l = c .before .before in
+    let p = l .before in (
+      l .loop .inv .2 ∙ added-all (parentOf (p .args .parents .now)) (p .args .edges) (p .pre .0 .allowed .up) ones (p .args .i) (p .args .j) (l .loop .at) (met (p .pre .0) (p .args .j) (l .loop .at) (p .pre .1 .1) (l .loop .inv .0 .on) (c .if1 .left)),
+      omega arith,
+    )
+
+pub edges-one-way-spec : {M : Type 1} → statement M
+edges-one-way-spec =
+    tie.close
+    (tie.spec
+    Inv-loop
+    μ-loop
+    loop-holds
+    mul-if1
+    element-copy-out-if1
+    shr-if1
+    add-count
+    element-copy-out-at
+    cast-at
+    loop-less
+    loop-again
+    returns)

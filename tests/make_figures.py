@@ -1,0 +1,289 @@
+#!/usr/bin/env python3
+"""Writes the input of the program `figures` and what it must print: the bench figures of document 01 that
+are not starred, with both sides of each limit; fits of the exact solver on trees of every kind, and of
+each a damaged twin; the worked example of document 000 and the data of document 001's Table 1.
+What must be printed comes from the plain reading (reading.py) alone.
+
+    tests/make_figures.py            writes crates/figures/stdin and crates/figures/stdout
+    tests/make_figures.py --check    says whether they are what this script writes"""
+import os
+import random
+import struct
+import sys
+from fractions import Fraction
+
+import reading
+import solver
+
+HERE = os.path.dirname(os.path.abspath(__file__))
+CRATE = os.path.join(HERE, "..", "crates", "figures")
+A = (4, [3, 7, 8, 6, 9, 5], [4, 4, 5, 5, 5], 2, [3, 3, 3, 7, 7])
+
+
+# ---- trees: nested lists of strains, numbered from the leaves up
+def table_of(shape, n):
+    """The parent table of a nested list of strains; inner vertices are numbered as their brackets close."""
+    parents, counter = {}, [n]
+
+    def close(node):
+        if isinstance(node, int):
+            return node
+        kids = [close(k) for k in node]
+        own = counter[0]
+        counter[0] += 1
+        for k in kids:
+            parents[k] = own
+        return own
+
+    root = close(shape)
+    return [parents[v] for v in range(root)]
+
+
+def star(n):
+    return list(range(n))
+
+
+def caterpillar(n):
+    shape = [0, 1]
+    for strain in range(2, n - 2):
+        shape = [shape, strain]
+    return [shape, n - 2, n - 1]
+
+
+def balanced(n):
+    def half(low, high):
+        if high - low == 1:
+            return low
+        middle = (low + high) // 2
+        return [half(low, middle), half(middle, high)]
+    third = n // 3
+    return [half(0, third), half(third, 2 * third), half(2 * third, n)]
+
+
+def grown(n, rng, most):
+    """A random tree: groups of two to `most` are joined until at most `most` + 1 are left at the root."""
+    nodes = list(range(n))
+    rng.shuffle(nodes)
+    while len(nodes) > max(3, rng.randint(3, most + 1)):
+        size = min(rng.randint(2, most), len(nodes) - 2)
+        picked = [nodes.pop(rng.randrange(len(nodes))) for _ in range(size)]
+        nodes.append(picked)
+    return nodes
+
+
+# ---- matrices
+def whole_paths(n, parents, lengths):
+    below = reading.clusters(n, parents)
+    return [reading.path(below, lengths, i, j) for i, j in reading.pairs_of(n)]
+
+
+def unsettled(n, parents, distances, rng, turns):
+    """The distances with whole numbers added that every edge's sum leaves out: over strains a b | c d, one
+    more on ac and bd and one less on ad and bc. The fit stays, and F grows."""
+    below = reading.clusters(n, parents)
+    place = {p: k for k, p in enumerate(reading.pairs_of(n))}
+    at = lambda a, b: place[(min(a, b), max(a, b))]
+    out = list(distances)
+    if n < 4:
+        return out
+    for _ in range(turns):
+        a, b, c, d = rng.sample(range(n), 4)
+        if any((a in s) != (b in s) and (c in s) != (d in s) for s in below):
+            continue
+        size = rng.randint(1, 40)
+        changed = {at(a, c): size, at(b, d): size, at(a, d): -size, at(b, c): -size}
+        if all(0 <= out[k] + x <= 50000 for k, x in changed.items()):
+            for k, x in changed.items():
+                out[k] += x
+    return out
+
+
+def fits(rng):
+    """Name and fields of each fit: the solver's lengths over a common denominator that passes."""
+    found = []
+
+    def take(name, n, shape, distances):
+        parents = table_of(shape, n)
+        denominator, numerators = solver.common(solver.solve(n, distances, parents))
+        if denominator <= 1000000 and all(abs(x) <= 10 ** 11 for x in numerators):
+            found.append((name, (n, distances, parents, denominator, numerators)))
+            return True
+        return False
+
+    # any distances at all, where the denominators stay small
+    for n in range(3, 9):
+        take("star", n, star(n), [rng.randint(0, 60) for _ in reading.pairs_of(n)])
+        take("any", n, grown(n, rng, 3), [rng.randint(0, 50000) for _ in reading.pairs_of(n)])
+        if n >= 4:
+            take("caterpillar", n, caterpillar(n), [rng.randint(0, 99) for _ in reading.pairs_of(n)])
+    tries = 0
+    while sum(1 for name, _ in found if name == "wild") < 14 and tries < 400:
+        tries += 1
+        n = rng.randint(4, 11)
+        take("wild", n, grown(n, rng, 5), [rng.choice((0, 1, 7, 500, 49999, 50000)) for _ in reading.pairs_of(n)])
+    # whole lengths, some negative, and distances that do not settle: any size
+    for n in (3, 4, 5, 9, 16, 17, 31, 32, 33, 47, 63, 64):
+        kinds = [("star", star(n)), ("tree", grown(n, rng, 4))]
+        if n >= 6:
+            kinds += [("caterpillar", caterpillar(n)), ("balanced", balanced(n)), ("resolved", grown(n, rng, 2))]
+        for name, shape in kinds:
+            parents = table_of(shape, n)
+            distances = [-1]
+            while min(distances) < 0 or max(distances) > 50000:
+                lengths = [rng.randint(300, 700) for _ in parents]
+                for v in range(n, len(parents)):
+                    lengths[v] = rng.choice((-40, -3, 0, 5, 60))
+                distances = whole_paths(n, parents, lengths)
+            take(name, n, shape, unsettled(n, parents, distances, rng, 6 * n))
+    return found
+
+
+def damaged(fields, rng):
+    """A twin with one thing wrong: a distance, a numerator, the denominator or a parent."""
+    n, distances, parents, denominator, numerators = fields
+    distances, parents, numerators = list(distances), list(parents), list(numerators)
+    kind = rng.randrange(5)
+    if kind == 0:
+        k = rng.randrange(len(distances))
+        distances[k] += 1 if distances[k] < 50000 else -1
+    elif kind == 1:
+        numerators[rng.randrange(len(numerators))] += rng.choice((-1, 1))
+    elif kind == 2:
+        denominator += 1
+    elif kind == 3:
+        parents[rng.randrange(len(parents))] = rng.randrange(n + 3)
+    else:
+        numerators.pop()
+    return n, distances, parents, denominator, numerators
+
+
+def worked_example():
+    """Document 000, figure 3 and equation 31. The text does not print the matrix, and the fit depends on it
+    through the split sums alone; so any whole distances with the printed split sums have this fit."""
+    printed = [80, 70, 56, 57, 80, 84, 90, 91, 136, 201, 129, 158]
+    lengths = [Fraction(*x) for x in ((13, 3), (8, 3), (23, 24), (1, 12), (47, 12), (7, 2), (9, 2), (163, 24),
+                                      (15, 16), (97, 32), (25, 16), (51, 16))]
+    # strains A .. H are 0 .. 7; edge 9 is above A and B, 10 above C, H and those, 11 above D and E, 12 above F and G
+    parents = [8, 8, 9, 10, 10, 11, 11, 9, 9, 12, 12, 12]
+    n, denominator = 8, 96
+    numerators = [int(b * denominator) for b in lengths]
+    distances = whole_distances(n, parents, [sum_over(n, parents, v, lengths) for v in range(12)], lengths)
+    assert reading.split_sums(n, distances, parents) == printed
+    return n, distances, parents, denominator, numerators
+
+
+def sum_over(n, parents, v, lengths):
+    below = reading.clusters(n, parents)
+    return sum(reading.path(below, lengths, i, j) for i, j in reading.pairs_of(n) if reading.parts(below[v], i, j))
+
+
+def whole_distances(n, parents, sums, lengths):
+    """Whole distances with the given split sums: the paths rounded down, then single units put where they are
+    wanted, found by trying."""
+    below = reading.clusters(n, parents)
+    pairs = reading.pairs_of(n)
+    rng = random.Random(31)
+    base = [int(reading.path(below, lengths, i, j)) for i, j in pairs]
+    rows = [[reading.parts(below[v], i, j) for i, j in pairs] for v in range(len(parents))]
+
+    def gap(d):
+        return [int(s - sum(x for x, on in zip(d, row) if on)) for s, row in zip(sums, rows)]
+
+    best = base
+    score = sum(g * g for g in gap(best))
+    while score:
+        trial = list(best)
+        for _ in range(rng.randint(1, 4)):
+            k = rng.randrange(len(pairs))
+            trial[k] = max(0, trial[k] + rng.choice((-1, 1)))
+        found = sum(g * g for g in gap(trial))
+        if found <= score or rng.random() < 0.001:
+            best, score = trial, found
+    return best
+
+
+def table_one():
+    """Document 001, Table 1, on a tree of the animals; monkey hangs at the root."""
+    rows = ["32 48 51 50 48 98 148", "26 34 29 33 84 136", "42 44 44 92 152", "44 38 86 142", "24 89 142", "90 142", "148"]
+    distances = [int(x) for row in rows for x in row.split()]
+    # dog 0, bear 1, raccoon 2, weasel 3, seal 4, sea lion 5, cat 6, monkey 7
+    shape = [[0, [[1, 2], [3, [4, 5]]]], 6, 7]
+    parents = table_of(shape, 8)
+    denominator, numerators = solver.common(solver.solve(8, distances, parents))
+    return 8, distances, parents, denominator, numerators
+
+
+def limits():
+    """Both sides of each limit, and the figures of document 01 that are not starred."""
+    n, distances, parents, d, numerators = A
+    yield b""
+    whole = reading.sheet(*A)
+    for size in (1, 5, 6, 7, len(whole) - 1):
+        yield whole[:size]
+    yield whole + b"\0"
+    yield b"\0" * 5187
+    yield b"\0" * 5188
+    yield reading.sheet(2, [1], [2, 2], 1, [1, 0])
+    yield reading.sheet(3, [1, 1, 1], [3, 3, 3], 2, [1, 1, 1])
+    for strains in (64, 65):
+        count = strains * (strains - 1) // 2
+        yield reading.sheet(strains, [2] * count, [strains] * strains, 1, [1] * strains)
+    for far in (50000, 50001):
+        yield reading.sheet(3, [far, far, far], [3, 3, 3], 2, [far, far, far])
+    for denominator in (0, 1, 1000000, 1000001):
+        yield reading.sheet(3, [2, 2, 2], [3, 3, 3], denominator, [denominator] * 3)
+    for size in (10 ** 11, 10 ** 11 + 1):
+        for sign in (1, -1):
+            yield reading.sheet(3, [0, 0, 0], [3, 3, 3], 1, [sign * size, 0, 0])
+    yield reading.sheet(3, [0, 0, 0], [3, 3, 3], 1, [-2 ** 63, 0, 0])
+    for changed in ([5, 5, 5, 5], [4, 4, 4, 4], [5, 5, 5, 5, 5], [4, 4, 5, 5, 6], [4, 4, 5, 5, 3], [5, 4, 5, 5, 5], [4, 4, 5, 5, 5, 5, 6]):
+        yield reading.sheet(n, distances, changed, d, [1] * len(changed))
+    yield reading.sheet(n, distances, parents, d, numerators[:4])
+    yield reading.sheet(n, distances, parents, d, numerators + [0])
+    for kinds in ((2, 1, 3), (1, 3, 2), (1, 2, 4), (257, 2, 3)):
+        records, at = [], 0
+        for kind in kinds:
+            size, = struct.unpack_from("<I", whole, at)
+            records.append(struct.pack("<IH", size, kind) + whole[at + 6:at + 6 + size])
+            at += 6 + size
+        yield b"".join(records)
+
+
+def sheets():
+    rng = random.Random(1998)
+    out = [reading.sheet(*A)]
+    out += list(limits())
+    for fields in (worked_example(), table_one()):
+        out.append(reading.sheet(*fields))
+        out.append(reading.sheet(*damaged(fields, rng)))
+    found = fits(rng)
+    for _, fields in found:
+        out.append(reading.sheet(*fields))
+        out.append(reading.sheet(*damaged(fields, rng)))
+    # the same fits over a denominator as large as it may be, where the numerators allow it
+    for _, (n, distances, parents, d, numerators) in found[:12]:
+        times = min(1000000 // d, 10 ** 11 // max(1, max(abs(x) for x in numerators)))
+        out.append(reading.sheet(n, distances, parents, d * times, [x * times for x in numerators]))
+    return out
+
+
+def main():
+    made = sheets()
+    stdin = b"".join(struct.pack("<I", len(s)) + s for s in made)
+    stdout = "".join(" ".join(reading.print_of(s)) + "\n" for s in made).encode()
+    files = {"stdin": stdin, "stdout": stdout}
+    if "--check" in sys.argv:
+        same = all(open(os.path.join(CRATE, name), "rb").read() == data for name, data in files.items())
+        print("%d sheets, %d accepted: %s" % (len(made), stdout.count(b"fit "), "as made" if same else "NOT as made"))
+        return 0 if same else 1
+    os.makedirs(CRATE, exist_ok=True)
+    for name, data in files.items():
+        with open(os.path.join(CRATE, name), "wb") as file:
+            file.write(data)
+    print("%d sheets, %d accepted, numbers %s" % (len(made), stdout.count(b"fit "),
+          sorted({int(line.split()[1]) for line in stdout.decode().splitlines() if line.startswith("refused")})))
+    return 0
+
+
+if __name__ == "__main__":
+    sys.exit(main())

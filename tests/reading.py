@@ -1,0 +1,190 @@
+"""A plain reading of document 01, for comparison. It shares nothing with the crates: every sum is taken
+over all pairs, every edge is asked for every pair, and numbers are Python's whole numbers."""
+import struct
+
+MAX_SHEET = 5187
+
+
+def pairs_of(n):
+    """The pairs in the order 01, 02, .., 0(N-1), 12, 13, .."""
+    return [(i, j) for i in range(n) for j in range(i + 1, n)]
+
+
+def clusters(n, parents):
+    """The set of strains below each vertex."""
+    below = [set() for _ in range(len(parents) + 1)]
+    for strain in range(n):
+        v = strain
+        below[v].add(strain)
+        while v < len(parents):
+            v = parents[v]
+            below[v].add(strain)
+    return below
+
+
+def parts(cluster, i, j):
+    return (i in cluster) != (j in cluster)
+
+
+def matrix_number(n, distances):
+    if len(distances) * 2 != n * (n - 1):
+        return 4
+    if not 3 <= n <= 64:
+        return 6
+    if any(d > 50000 for d in distances):
+        return 7
+    return 0
+
+
+def tree_number(n, parents):
+    if not 3 <= n <= 64:
+        return 6
+    v = len(parents) + 1
+    if not n + 1 <= v <= 2 * n - 2:
+        return 8
+    if any(p <= child or p < n or p > v - 1 for child, p in enumerate(parents)):
+        return 9
+    children = [parents.count(w) for w in range(v)]
+    if any(children[w] < (3 if w == v - 1 else 2) for w in range(n, v)):
+        return 10
+    return 0
+
+
+def lengths_number(edges, denominator, numerators):
+    if len(numerators) != edges:
+        return 11
+    if not 1 <= denominator <= 1000000:
+        return 12
+    if any(abs(x) > 100000000000 for x in numerators):
+        return 13
+    return 0
+
+
+def path(below, table, i, j):
+    return sum(x for v, x in enumerate(table) if parts(below[v], i, j))
+
+
+def edge_sums(n, distances, parents, denominator, numerators):
+    """For each edge the remainders added over the pairs that it parts."""
+    below = clusters(n, parents)
+    pairs = pairs_of(n)
+    remainders = [denominator * d - path(below, numerators, i, j) for d, (i, j) in zip(distances, pairs)]
+    return [sum(r for r, (i, j) in zip(remainders, pairs) if parts(below[v], i, j)) for v in range(len(parents))]
+
+
+def split_sums(n, distances, parents):
+    return edge_sums(n, distances, parents, 1, [0] * len(parents))
+
+
+def judge(n, distances, parents, denominator, numerators):
+    number = matrix_number(n, distances) or tree_number(n, parents) or lengths_number(len(parents), denominator, numerators)
+    if number:
+        return number
+    return 14 if any(edge_sums(n, distances, parents, denominator, numerators)) else 0
+
+
+def nearest(numerator, denominator):
+    """The whole number nearest 1000·numerator/denominator, a tie going away from zero."""
+    doubled = 2000 * abs(numerator)
+    whole, rest = divmod(doubled, 2 * denominator)
+    if 2 * rest >= 2 * denominator:
+        whole += 1
+    return whole if numerator >= 0 else -whole
+
+
+class Report:
+    """The numbers of an accepted fit."""
+
+    def __init__(self, n, distances, parents, denominator, numerators):
+        below = clusters(n, parents)
+        pairs = pairs_of(n)
+        self.n, self.edges, self.denominator = n, len(parents), denominator
+        self.numerators = list(numerators)
+        self.rounded = [nearest(x, denominator) for x in numerators]
+        self.length = sum(numerators)
+        self.f = self.r = self.h = 0
+        for d, (i, j) in zip(distances, pairs):
+            self.f += d * (denominator * d - path(below, numerators, i, j))
+            self.r += (1000 * d - path(below, self.rounded, i, j)) ** 2
+            self.h += path(below, [1] * len(parents), i, j) ** 2
+        self.mean = (self.f, denominator * len(pairs))
+
+    def lines(self):
+        out = ["fit %d %d %d" % (self.n, self.edges, self.denominator)]
+        out += ["edge %d %d %d" % (v, x, m) for v, (x, m) in enumerate(zip(self.numerators, self.rounded))]
+        out += ["length %d" % self.length, "square %d %d %d" % (self.f, self.r, self.h), "mean %d %d" % self.mean]
+        return out
+
+
+# ---- sheets
+def record(kind, body):
+    return struct.pack("<IH", len(body), kind) + body
+
+
+def sheet(n, distances, parents, denominator, numerators):
+    return (record(1, struct.pack("<H", n) + b"".join(struct.pack("<H", d) for d in distances))
+            + record(2, struct.pack("<HH", n, len(parents) + 1) + bytes(parents))
+            + record(3, struct.pack("<IH", denominator, len(numerators)) + b"".join(struct.pack("<q", x) for x in numerators)))
+
+
+def read_sheet(data):
+    """The number of refusal, or the fields of the three records."""
+    if len(data) > MAX_SHEET:
+        return 1, None
+    at, bodies = 0, []
+    for kind in (1, 2, 3):
+        if len(data) - at < 6:
+            return 2, None
+        size, found = struct.unpack_from("<IH", data, at)
+        if len(data) - at - 6 < size:
+            return 2, None
+        if found != kind:
+            return 3, None
+        body = data[at + 6:at + 6 + size]
+        if size < (2, 4, 6)[kind - 1]:
+            return 4, None
+        if kind == 1:
+            n, = struct.unpack_from("<H", body)
+            if size != 2 + n * (n - 1):
+                return 4, None
+        elif kind == 2:
+            _, v = struct.unpack_from("<HH", body)
+            if v == 0 or size != 4 + v - 1:
+                return 4, None
+        else:
+            _, k = struct.unpack_from("<IH", body)
+            if size != 6 + 8 * k:
+                return 4, None
+        bodies.append(body)
+        at += 6 + size
+    if at != len(data):
+        return 5, None
+    first, second, third = bodies
+    n, = struct.unpack_from("<H", first)
+    distances = list(struct.unpack_from("<%dH" % (len(first) // 2 - 1), first, 2))
+    tree_n, _ = struct.unpack_from("<HH", second)
+    denominator, k = struct.unpack_from("<IH", third)
+    numerators = list(struct.unpack_from("<%dq" % k, third, 6))
+    return 0, (n, distances, tree_n, list(second[4:]), denominator, numerators)
+
+
+def sheet_number(data):
+    number, fields = read_sheet(data)
+    if number:
+        return number
+    n, distances, tree_n, parents, denominator, numerators = fields
+    number = matrix_number(n, distances)
+    if number:
+        return number
+    if tree_n != n:
+        return 8
+    return judge(n, distances, parents, denominator, numerators)
+
+
+def print_of(data):
+    """The lines that the report program prints."""
+    number = sheet_number(data)
+    if number:
+        return ["refused %d" % number]
+    n, distances, _, parents, denominator, numerators = read_sheet(data)[1]
+    return Report(n, distances, parents, denominator, numerators).lines()

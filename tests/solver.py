@@ -1,0 +1,60 @@
+"""An exact least-squares solver: the lengths of a tree's edges that fit a matrix best, as fractions. The
+normal equations are solved modulo a large prime, the fractions read back, and the equations then checked
+exactly. It knows the model (document 000, equation 22) and nothing of the crates."""
+import math
+from fractions import Fraction
+
+import reading
+
+PRIME = 2 ** 521 - 1
+
+
+def read_back(residue):
+    """The fraction with small numerator and denominator that the residue stands for."""
+    bound = 1 << 260
+    r0, r1, s0, s1 = PRIME, residue, 0, 1
+    while r1 > bound:
+        q = r0 // r1
+        r0, r1, s0, s1 = r1, r0 - q * r1, s1, s0 - q * s1
+    return Fraction(r1, s1)
+
+
+def solve(n, distances, parents):
+    """The length of each edge."""
+    below = reading.clusters(n, parents)
+    edges = len(parents)
+    sides = [frozenset(below[v]) for v in range(edges)]
+    # the pairs that two edges both part: by the sizes of the four cells that the two clusters make
+    rows = []
+    for u in range(edges):
+        row = []
+        for v in range(edges):
+            both = len(sides[u] & sides[v])
+            only_u, only_v = len(sides[u]) - both, len(sides[v]) - both
+            neither = n - both - only_u - only_v
+            row.append(both * neither + only_u * only_v)
+        rows.append(row)
+    wanted = reading.split_sums(n, distances, parents)
+    work = [[x % PRIME for x in row] + [w % PRIME] for row, w in zip(rows, wanted)]
+    for column in range(edges):
+        pivot = next(r for r in range(column, edges) if work[r][column])
+        work[column], work[pivot] = work[pivot], work[column]
+        inverse = pow(work[column][column], -1, PRIME)
+        work[column] = [x * inverse % PRIME for x in work[column]]
+        for r in range(edges):
+            if r != column and work[r][column]:
+                factor = work[r][column]
+                work[r] = [(x - factor * y) % PRIME for x, y in zip(work[r], work[column])]
+    lengths = [read_back(row[edges]) for row in work]
+    for row, w in zip(rows, wanted):
+        if sum(a * b for a, b in zip(row, lengths)) != w:
+            raise ValueError("the prime is too small for this fit")
+    return lengths
+
+
+def common(lengths):
+    """A denominator and numerators."""
+    denominator = 1
+    for b in lengths:
+        denominator = math.lcm(denominator, b.denominator)
+    return denominator, [int(b * denominator) for b in lengths]
