@@ -1,5 +1,5 @@
 -- What a loop over a table shows of `some`, and what its answer tells.
-use mathlib.Core.Path.{_≡_, refl, sym, _∙_, ap}
+use mathlib.Core.Path.{_≡_, refl, sym, _∙_, ap, ap₂}
 use mathlib.Core.Bool.{Bool, true, false, _||_, cond}
 use Prim.Native.Nat.{ℕ, zero, suc, _+_, _<_, _≤_}
 use native.Mathlib.Decide.{ℕ-discrete}
@@ -33,6 +33,12 @@ some-none n p e i h = go (p i) refl
     go : (b : Bool) → p i ≡ b → p i ≡ false
     go true q = q ∙ sym (some-yes n p i h q) ∙ e
     go false q = q
+
+-- tests that agree below n have one answer
+pub some-cong : (n : ℕ) (p q : ℕ → Bool) → ((i : ℕ) → i < n → p i ≡ q i) → some n p ≡ some n q
+unfolding some
+some-cong zero p q h = refl
+some-cong (suc n) p q h = ap₂ _||_ (some-cong n p q (λ i l. h i (omega arith))) (h n (omega arith))
 
 pub count-zero : (p : ℕ → Bool) → count 0 p ≡ 0
 unfolding count

@@ -1,4 +1,4 @@
--- What a walk needs of the tables that it is lent.
+-- What a walk needs of the tables that it is lent, and what it leaves in the one that it marks.
 use mathlib.Core.Path.{_≡_}
 use mathlib.Core.Bool.{Bool}
 use mathlib.Core.List.{List}

@@ -1,4 +1,5 @@
 -- `mark`: no edge is on both ways, so the second way's entries still have their room, and the two ways are what parts i and j.
+use native.Mathlib.Omega.{arith}
 use mir.Facts.{toZ-ofZ}
 use Rattle.tree.specs.Chain.{parentOf}
 use Rattle.walk.proofs.Marking.{second-room, marked-both}
@@ -15,7 +16,7 @@ mark-one-way-requires-2 c κs = let p = c .before .before .before in
     let m = call .ensures in (
       p .pre .0,
       (
-        (p .pre .1 .0 .1, p .pre .1 .0 .0),
+        (omega arith, omega arith),
         (
           m .size,
           second-room (parentOf (p .args .parents .now)) (p .args .edges) (p .args .i) (p .args .j) (p .args .r) (p .fits .r) (p .args .sums .now) (call .last .1 .1 .1 .1 .1 .1 .1 .0) m (p .pre .1 .1 .1),

@@ -1,0 +1,10 @@
+pub mod Bench
+pub mod Zeros
+pub mod Exactly
+pub mod Demand3
+pub mod Transfer
+pub mod Cases
+pub mod Chained
+pub mod Reporting
+pub mod Reports
+pub mod OneReport

@@ -1,0 +1,6 @@
+pub mod Quantities
+pub mod Tests
+pub mod Stands
+pub mod Figures
+pub mod Answers
+pub mod Ready

@@ -1,0 +1,133 @@
+// The numbers of an accepted fit: the tree length, the rounded lengths, F, R and H.
+use matrix::Matrix;
+use tree::Tree;
+ghost use mathlib.Core.Path.{_≡_};
+ghost use mathlib.Core.Bool.{cond};
+ghost use Prim.Native.Nat.{_≤_};
+ghost use lib.Dec.{ltb};
+ghost use lib.IntN.{pos};
+ghost use Rattle.exact.specs.Sum.{sum, pairs};
+ghost use Rattle.exact.specs.Table.{table};
+ghost use Rattle.exact.specs.Nearest.{nearest};
+ghost use Rattle.exact.specs.LeastSquares.{sumF, sumR, sumH};
+ghost use Rattle.matrix.specs.Place.{distance};
+ghost use Rattle.tree.specs.Chain.{parentOf, partsPair};
+ghost use Rattle.lengths.specs.Limits.{maxDenominator, maxEdges};
+ghost use Rattle.walk.specs.Standing.{Standing, entryOf};
+ghost use Rattle.sums.specs.Ready.{Ready, InRange};
+ghost use Rattle.numbers.specs.Fits.{Fits63};
+
+// The numerator of the tree length: the sum of all numerators.
+pub fn total(edges: usize, numerators: &[i64; Tree::MAX_EDGES]) -> i64
+    requires { ⌜ edges ≤ maxEdges ⌝ }
+    requires { ⌜ InRange edges (now numerators) ⌝ }
+    ensures { λ r. ⌜ r ≡ sum edges (entryOf (now (numerators .entry))) ⌝ }
+{
+    let mut sum: i64 = 0;
+    let mut edge = 0;
+    while edge < edges {
+        sum += numerators[edge];
+        edge += 1;
+    }
+    sum
+}
+
+fn no_lengths() -> [i64; Tree::MAX_EDGES]
+    ensures { λ r. ⌜ r ≡ table 125 (λ _. pos 0) ⌝ }
+{
+    [0; Tree::MAX_EDGES]
+}
+
+// m: each length in thousandths, then zeros.
+pub fn rounded(edges: usize, d: u32, numerators: &[i64; Tree::MAX_EDGES]) -> [i64; Tree::MAX_EDGES]
+    requires { ⌜ (edges ≤ maxEdges) × (1 ≤ d) × (d ≤ maxDenominator) ⌝ }
+    requires { ⌜ InRange edges (now numerators) ⌝ }
+    ensures { λ r. ⌜ r ≡ table 125 (λ v. cond (ltb v edges) (nearest d (entryOf (now (numerators .entry)) v)) (pos 0)) ⌝ }
+{
+    let mut lengths = no_lengths();
+    let mut v = 0;
+    while v < edges {
+        lengths[v] = exact::thousandths(numerators[v], d);
+        v += 1;
+    }
+    lengths
+}
+
+// F: the sum of d·r over all pairs. The sum travels modulo 2^64, and the total is exact where it fits.
+pub fn sum_f(
+    n: usize,
+    edges: usize,
+    d: u32,
+    distances: &[u16; Matrix::MAX_PAIRS],
+    parents: &[u8; Tree::MAX_EDGES],
+    clusters: &[u64; Tree::MAX_VERTICES],
+    numerators: &[i64; Tree::MAX_EDGES],
+) -> u64
+    requires { ⌜ Ready n edges d (now distances) (now parents) (now clusters) (now numerators) ⌝ }
+    requires { ⌜ InRange edges (now numerators) ⌝ }
+    requires { ⌜ Fits63 (sumF (pairs n) edges (partsPair (parentOf (now parents))) (distance n (now distances)) (pos d) (entryOf (now numerators))) ⌝ }
+    ensures { λ r. ⌜ pos r ≡ sumF (pairs n) edges (partsPair (parentOf (now (parents .entry)))) (distance n (now (distances .entry))) (pos d) (entryOf (now (numerators .entry))) ⌝ }
+{
+    let mut acc: u64 = 0;
+    let mut i = 0;
+    let mut j = 1;
+    while j < n {
+        let far = distances[matrix::place(n, i, j)] as i64;
+        let term = far
+            * sums::remainder(n, edges, d, distances, parents, clusters, numerators, i, j);
+        acc = exact::accumulate(acc, term);
+        let next = sums::next_pair(i, j);
+        i = next.i;
+        j = next.j;
+    }
+    acc
+}
+
+// R: the sum over pairs of the square of 1000·d less the path taken over the rounded lengths.
+pub fn sum_r(
+    n: usize,
+    edges: usize,
+    distances: &[u16; Matrix::MAX_PAIRS],
+    parents: &[u8; Tree::MAX_EDGES],
+    clusters: &[u64; Tree::MAX_VERTICES],
+    lengths: &[i64; Tree::MAX_EDGES],
+) -> u64
+    requires { ⌜ Ready n edges 1000 (now distances) (now parents) (now clusters) (now lengths) ⌝ }
+    requires { ⌜ Fits63 (sumR (pairs n) edges (partsPair (parentOf (now parents))) (distance n (now distances)) (entryOf (now lengths))) ⌝ }
+    ensures { λ r. ⌜ pos r ≡ sumR (pairs n) edges (partsPair (parentOf (now (parents .entry)))) (distance n (now (distances .entry))) (entryOf (now (lengths .entry))) ⌝ }
+{
+    let mut sum: i64 = 0;
+    let mut i = 0;
+    let mut j = 1;
+    while j < n {
+        let off = sums::remainder(n, edges, 1000, distances, parents, clusters, lengths, i, j);
+        sum += off * off;
+        let next = sums::next_pair(i, j);
+        i = next.i;
+        j = next.j;
+    }
+    sum as u64
+}
+
+// H: the sum over pairs of the square of the number of edges that part the pair.
+pub fn sum_h(
+    n: usize,
+    edges: usize,
+    parents: &[u8; Tree::MAX_EDGES],
+    clusters: &[u64; Tree::MAX_VERTICES],
+) -> u64
+    requires { ⌜ Standing n edges (now parents) (now clusters) ⌝ }
+    ensures { λ r. ⌜ pos r ≡ sumH (pairs n) edges (partsPair (parentOf (now (parents .entry)))) ⌝ }
+{
+    let mut sum: u64 = 0;
+    let mut i = 0;
+    let mut j = 1;
+    while j < n {
+        let h = walk::hops(n, edges, parents, clusters, i, j);
+        sum += h * h;
+        let next = sums::next_pair(i, j);
+        i = next.i;
+        j = next.j;
+    }
+    sum
+}
