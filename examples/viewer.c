@@ -1,0 +1,51 @@
+/* A small bench viewer: prints for each sheet named on the command line its name and its verdict in
+ * words. Built with
+ *     rt staticlib sheet
+ *     cc -Iinclude examples/viewer.c target/staticlib/libsheet.a -o viewer      (on x86-64) */
+#include <stdio.h>
+#include <stdlib.h>
+
+#include "vamuthexa.h"
+
+static const char *const words[] = {
+    "accepted: the lengths are the least-squares fit to this matrix on this tree",
+    "the sheet is longer than 5,187 bytes",
+    "a record is cut short",
+    "a record is not of the kind that is due",
+    "a record's length does not match its counts",
+    "bytes follow the third record",
+    "the number of strains is not 3 to 64",
+    "a distance is above 50,000",
+    "the tree is for another number of strains, or has too few or too many vertices",
+    "a parent is not above its child, is a strain, or is past the root",
+    "an inner vertex has too few children",
+    "there is not one numerator for each edge",
+    "the denominator is not 1 to 1,000,000",
+    "a numerator is beyond its range",
+    "the lengths are not the fit: for some edge observed and tree distance differ in sum",
+};
+
+/* One byte more than a sheet may have is enough to know that it is too long. */
+enum { READ_AT_MOST = 5188 };
+
+int main(int count, char **names) {
+    int refused = 0;
+    for (int i = 1; i < count; i++) {
+        static unsigned char bytes[READ_AT_MOST];
+        FILE *file = fopen(names[i], "rb");
+        if (file == NULL) {
+            perror(names[i]);
+            return 2;
+        }
+        size_t length = fread(bytes, 1, sizeof bytes, file);
+        fclose(file);
+        uint32_t number = sheet_verdict(bytes, length);
+        if (number == VAMUTHEXA_ACCEPTED) {
+            printf("%s: %s\n", names[i], words[0]);
+        } else {
+            printf("%s: refused %u, %s\n", names[i], (unsigned)number, number < 15 ? words[number] : "unknown");
+            refused = 1;
+        }
+    }
+    return refused;
+}

@@ -1,0 +1,32 @@
+/* The verdict on a sheet, for programs in C. The function is proved: for every byte string it returns 0
+ * where the sheet is accepted and otherwise the number of refusal, and it reads no byte outside the
+ * string. Link with libsheet.a. */
+#ifndef VAMUTHEXA_H
+#define VAMUTHEXA_H
+
+#include <stddef.h>
+#include <stdint.h>
+
+enum vamuthexa_number {
+    VAMUTHEXA_ACCEPTED = 0,
+    VAMUTHEXA_SHEET_TOO_LONG = 1, /* sheet above 5,187 bytes */
+    VAMUTHEXA_RECORD_CUT = 2,     /* fewer bytes left than a record's head or body needs */
+    VAMUTHEXA_WRONG_KIND = 3,     /* kind not the one due */
+    VAMUTHEXA_WRONG_COUNTS = 4,   /* body too short for its counts, V = 0, or length not as they say */
+    VAMUTHEXA_BYTES_LEFT = 5,     /* bytes after the third record */
+    VAMUTHEXA_STRAINS = 6,        /* matrix N not 3 to 64 */
+    VAMUTHEXA_DISTANCE = 7,       /* a distance above 50,000 */
+    VAMUTHEXA_VERTICES = 8,       /* the tree's N differs from the matrix's, or V not N+1 to 2N-2 */
+    VAMUTHEXA_PARENT = 9,         /* a parent not greater than its child, below N or above V-1 */
+    VAMUTHEXA_CHILDREN = 10,      /* an inner vertex with too few children */
+    VAMUTHEXA_EDGES = 11,         /* K not V-1 */
+    VAMUTHEXA_DENOMINATOR = 12,   /* D not 1 to 1,000,000 */
+    VAMUTHEXA_NUMERATOR = 13,     /* a numerator beyond its range */
+    VAMUTHEXA_REMAINDERS = 14,    /* some edge's sum of remainders is not zero: not the fit */
+    VAMUTHEXA_BUFFER = 15         /* a lent result buffer not of the exact length; never for a sheet */
+};
+
+/* The number of the sheet in the bytes at `sheet`; `length` may be 0. */
+uint32_t sheet_verdict(const uint8_t *sheet, size_t length);
+
+#endif

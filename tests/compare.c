@@ -1,0 +1,274 @@
+/* Compares `sheet_verdict` with the two plain readings on many sheets: empty, every length, valid, cut, one
+ * byte changed, fields at and past their limits. Each sheet is lent at the very end of a page that is
+ * followed by one that cannot be read, so that a read past the slice ends the program. */
+#include <stdio.h>
+#include <stdlib.h>
+#include <string.h>
+#include <sys/mman.h>
+#include <unistd.h>
+
+#include "plain.h"
+#include "vamuthexa.h"
+
+enum { ROOM = 65536 };
+
+static uint8_t *edge; /* the first byte that cannot be read */
+static unsigned long passed, failed, seen[16];
+
+static void lend_and_compare(const uint8_t *sheet, size_t length) {
+    uint8_t *lent = edge - length;
+    memcpy(lent, sheet, length);
+    uint32_t ours = sheet_verdict(lent, length);
+    uint32_t triple = plain_triple(sheet, length);
+    uint32_t pass = plain_pass(sheet, length);
+    if (ours == triple && ours == pass && memcmp(lent, sheet, length) == 0) {
+        passed++;
+    } else {
+        failed++;
+        if (failed <= 10) {
+            printf("sheet of %zu bytes: ours %u, triple %u, pass %u\n", length, (unsigned)ours, (unsigned)triple, (unsigned)pass);
+        }
+    }
+    if (ours < 16) {
+        seen[ours]++;
+    }
+}
+
+/* ---- chance, the same on every machine */
+static uint64_t state = 88172645463325252u;
+
+static uint64_t chance(uint64_t below) {
+    state ^= state << 13;
+    state ^= state >> 7;
+    state ^= state << 17;
+    return state % below;
+}
+
+/* ---- sheets */
+struct parts {
+    uint32_t n, tree_n, v, k, d;
+    uint16_t distances[4096];
+    uint8_t parents[256];
+    int64_t numerators[1024];
+};
+
+static size_t put(uint8_t *at, uint64_t x, int bytes) {
+    for (int i = 0; i < bytes; i++) {
+        at[i] = (uint8_t)(x >> (8 * i));
+    }
+    return (size_t)bytes;
+}
+
+static size_t write_sheet(const struct parts *p, uint8_t *out) {
+    size_t at = 0;
+    uint32_t pairs = p->n * (p->n == 0 ? 0 : p->n - 1) / 2;
+    at += put(out + at, 2 + 2 * pairs, 4);
+    at += put(out + at, 1, 2);
+    at += put(out + at, p->n, 2);
+    for (uint32_t i = 0; i < pairs; i++) {
+        at += put(out + at, p->distances[i], 2);
+    }
+    at += put(out + at, 4 + p->v - 1, 4);
+    at += put(out + at, 2, 2);
+    at += put(out + at, p->tree_n, 2);
+    at += put(out + at, p->v, 2);
+    for (uint32_t i = 0; i + 1 < p->v; i++) {
+        at += put(out + at, p->parents[i], 1);
+    }
+    at += put(out + at, 6 + 8 * p->k, 4);
+    at += put(out + at, 3, 2);
+    at += put(out + at, p->d, 4);
+    at += put(out + at, p->k, 2);
+    for (uint32_t i = 0; i < p->k; i++) {
+        at += put(out + at, (uint64_t)p->numerators[i], 8);
+    }
+    return at;
+}
+
+/* A random allowed tree: inner vertices take two or more of the nodes that are left, the root three or more. */
+static void grow(struct parts *p, uint32_t n) {
+    uint32_t nodes[128], left = n, next = n;
+    for (uint32_t i = 0; i < n; i++) {
+        nodes[i] = i;
+    }
+    while (left > 3 && chance(5) != 0) {
+        uint32_t take = 2 + (uint32_t)chance(3);
+        if (take > left - 2) {
+            take = left - 2;
+        }
+        if (take < 2) {
+            break;
+        }
+        for (uint32_t t = 0; t < take; t++) {
+            uint32_t pick = (uint32_t)chance(left);
+            p->parents[nodes[pick]] = (uint8_t)next;
+            nodes[pick] = nodes[--left];
+        }
+        nodes[left++] = next++;
+    }
+    for (uint32_t t = 0; t < left; t++) {
+        p->parents[nodes[t]] = (uint8_t)next;
+    }
+    p->n = p->tree_n = n;
+    p->v = next + 1;
+    p->k = next;
+}
+
+/* Distances that the lengths fit: the paths, and units that every edge's sum leaves out. */
+static void fit(struct parts *p) {
+    uint64_t below[128] = {0};
+    for (uint32_t i = 0; i < p->n; i++) {
+        for (uint32_t v = i;; v = p->parents[v]) {
+            below[v] |= (uint64_t)1 << i;
+            if (v == p->v - 1) {
+                break;
+            }
+        }
+    }
+    uint32_t scale = chance(4) == 0 ? 1 + (uint32_t)chance(9) : 1;
+    int64_t length[128];
+    for (uint32_t v = 0; v < p->k; v++) {
+        length[v] = v < p->n ? 300 + (int64_t)chance(400) : (int64_t)chance(80) - 20;
+        p->numerators[v] = length[v] * scale;
+    }
+    p->d = scale;
+    uint32_t at[64][64], q = 0;
+    for (uint32_t i = 0; i < p->n; i++) {
+        for (uint32_t j = i + 1; j < p->n; j++, q++) {
+            int64_t path = 0;
+            for (uint32_t v = 0; v < p->k; v++) {
+                if ((below[v] >> i & 1) != (below[v] >> j & 1)) {
+                    path += length[v];
+                }
+            }
+            p->distances[q] = (uint16_t)(path < 0 ? 0 : path);
+            at[i][j] = at[j][i] = q;
+        }
+    }
+    for (int turn = 0; turn < 40 && p->n >= 4; turn++) {
+        uint32_t a = (uint32_t)chance(p->n), b = (uint32_t)chance(p->n), c = (uint32_t)chance(p->n), d = (uint32_t)chance(p->n);
+        if (a == b || a == c || a == d || b == c || b == d || c == d) {
+            continue;
+        }
+        int crossed = 0;
+        for (uint32_t v = 0; v < p->k; v++) {
+            crossed |= (below[v] >> a & 1) != (below[v] >> b & 1) && (below[v] >> c & 1) != (below[v] >> d & 1);
+        }
+        if (crossed || p->distances[at[a][d]] == 0 || p->distances[at[b][c]] == 0) {
+            continue;
+        }
+        p->distances[at[a][c]]++;
+        p->distances[at[b][d]]++;
+        p->distances[at[a][d]]--;
+        p->distances[at[b][c]]--;
+    }
+}
+
+/* One field moved to or past a limit. */
+static void strain_limits(struct parts *p) {
+    static const uint32_t denominators[] = {0, 1, 1000000, 1000001, 0xffffffffu};
+    static const int64_t far[] = {100000000000, 100000000001, -100000000000, -100000000001, INT64_MIN, INT64_MAX};
+    uint32_t pairs = p->n * (p->n - 1) / 2;
+    switch (chance(8)) {
+    case 0: p->distances[chance(pairs)] = (uint16_t)(50000 + chance(2)); break;
+    case 1: p->d = denominators[chance(5)]; break;
+    case 2: p->numerators[chance(p->k)] = far[chance(6)]; break;
+    case 3: p->tree_n += (uint32_t)chance(3) - 1; break;
+    case 4: p->k += (uint32_t)chance(3) - 1; break;
+    case 5: p->v += (uint32_t)chance(5) - 2; break;
+    case 6: p->parents[chance(p->k)] = (uint8_t)chance(p->v + 2); break;
+    default: p->n += (uint32_t)chance(3) - 1; break;
+    }
+}
+
+int main(void) {
+    static uint8_t sheet[ROOM];
+    static struct parts p;
+    long page = sysconf(_SC_PAGESIZE);
+    uint8_t *map = mmap(NULL, ROOM + (size_t)page, PROT_READ | PROT_WRITE, MAP_PRIVATE | MAP_ANONYMOUS, -1, 0);
+    if (map == MAP_FAILED || mprotect(map + ROOM, (size_t)page, PROT_NONE) != 0) {
+        perror("a page that cannot be read");
+        return 2;
+    }
+    edge = map + ROOM;
+    /* every length from 0 to 5,200: zeros, chance, and the longest valid sheet cut or drawn out */
+    grow(&p, 64);
+    while (p.v != 126) {
+        grow(&p, 64);
+        for (uint32_t v = 0, next = 64; v < 63; v++, next++) { /* a caterpillar has the most edges */
+            p.parents[v == 0 ? 0 : v] = (uint8_t)(v < 2 ? 64 : 64 + v - 1);
+            (void)next;
+        }
+        p.parents[62] = p.parents[63] = 125;
+        for (uint32_t v = 64; v < 125; v++) {
+            p.parents[v] = (uint8_t)(v + 1);
+        }
+        p.v = 126;
+        p.k = 125;
+    }
+    fit(&p);
+    size_t whole = write_sheet(&p, sheet);
+    for (size_t length = 0; length <= 5200; length++) {
+        lend_and_compare(sheet, length);
+    }
+    static uint8_t other[ROOM];
+    for (size_t length = 0; length <= 5200; length++) {
+        lend_and_compare(other, length);
+        for (size_t i = 0; i < length; i++) {
+            other[i] = (uint8_t)chance(256);
+        }
+        if (length >= 12) {
+            put(other, length - 12, 4);
+            put(other + 4, 1, 2);
+        }
+        lend_and_compare(other, length);
+        memset(other, 0, length);
+    }
+    if (whole != 5187) {
+        printf("the longest sheet has %zu bytes, not 5,187\n", whole);
+        failed++;
+    }
+    /* valid sheets, each cut, with one byte changed, and with a field at or past a limit */
+    for (unsigned long turn = 0; passed + failed < 205000; turn++) {
+        uint32_t n = turn % 16 == 0 ? 64 : 3 + (uint32_t)chance(turn % 4 == 0 ? 62 : 14);
+        grow(&p, n);
+        fit(&p);
+        size_t length = write_sheet(&p, sheet);
+        lend_and_compare(sheet, length);
+        lend_and_compare(sheet, (size_t)chance(length));
+        for (int changes = 0; changes < 6; changes++) {
+            size_t place = (size_t)chance(changes < 3 ? length : (length < 40 ? length : 40));
+            uint8_t old = sheet[place];
+            sheet[place] = (uint8_t)chance(256);
+            lend_and_compare(sheet, length);
+            sheet[place] = old;
+        }
+        size_t heads[2] = {6 + (size_t)n * (n - 1) + 2, 0};
+        heads[1] = heads[0] + 6 + 4 + p.v - 1;
+        for (int h = 0; h < 2; h++) {
+            size_t place = heads[h] + (size_t)chance(12);
+            uint8_t old = sheet[place];
+            sheet[place] = (uint8_t)(old + 1 + chance(3));
+            lend_and_compare(sheet, length);
+            sheet[place] = old;
+        }
+        for (int strained = 0; strained < 4; strained++) {
+            static struct parts twin;
+            twin = p;
+            strain_limits(&twin);
+            lend_and_compare(sheet, write_sheet(&twin, sheet));
+        }
+    }
+    for (int k = 0; k < 16; k++) {
+        printf("%s%lu", k == 0 ? "answers 0 to 15: " : " ", seen[k]);
+    }
+    printf("\n");
+    for (int k = 0; k < 15; k++) {
+        if (seen[k] == 0) {
+            printf("no sheet got %d\n", k);
+            failed++;
+        }
+    }
+    printf("%lu passed, %lu failed\n", passed, failed);
+    return failed != 0;
+}

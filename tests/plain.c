@@ -1,0 +1,215 @@
+#include "plain.h"
+
+#include <string.h>
+
+enum { MAX_N = 64, MAX_V = 2 * MAX_N - 2, MAX_SHEET = 5187 };
+
+static uint64_t little(const uint8_t *at, int bytes) {
+    uint64_t x = 0;
+    for (int k = bytes - 1; k >= 0; k--) {
+        x = x << 8 | at[k];
+    }
+    return x;
+}
+
+struct sheet {
+    uint32_t n, tree_n, v, k, d;
+    const uint8_t *distances, *parents, *numerators;
+};
+
+/* 1 to 5. */
+static uint32_t read_form(const uint8_t *s, size_t length, struct sheet *out) {
+    if (length > MAX_SHEET) {
+        return 1;
+    }
+    size_t at = 0;
+    for (int kind = 1; kind <= 3; kind++) {
+        if (length - at < 6) {
+            return 2;
+        }
+        uint64_t size = little(s + at, 4);
+        if (length - at - 6 < size) {
+            return 2;
+        }
+        if (little(s + at + 4, 2) != (uint64_t)kind) {
+            return 3;
+        }
+        const uint8_t *body = s + at + 6;
+        if (kind == 1) {
+            if (size < 2) {
+                return 4;
+            }
+            uint64_t n = little(body, 2);
+            if (size != 2 + n * (n == 0 ? 0 : n - 1)) {
+                return 4;
+            }
+            out->n = (uint32_t)n;
+            out->distances = body + 2;
+        } else if (kind == 2) {
+            if (size < 4) {
+                return 4;
+            }
+            out->tree_n = (uint32_t)little(body, 2);
+            out->v = (uint32_t)little(body + 2, 2);
+            if (out->v == 0 || size != 4 + (uint64_t)out->v - 1) {
+                return 4;
+            }
+            out->parents = body + 4;
+        } else {
+            if (size < 6) {
+                return 4;
+            }
+            out->d = (uint32_t)little(body, 4);
+            out->k = (uint32_t)little(body + 4, 2);
+            if (size != 6 + 8 * (uint64_t)out->k) {
+                return 4;
+            }
+            out->numerators = body + 6;
+        }
+        at += 6 + (size_t)size;
+    }
+    return at == length ? 0 : 5;
+}
+
+/* 6 to 13; fills the tables. */
+static uint32_t read_held(const struct sheet *s, uint16_t d[], uint8_t parent[], int64_t n[]) {
+    if (s->n < 3 || s->n > MAX_N) {
+        return 6;
+    }
+    uint32_t pairs = s->n * (s->n - 1) / 2;
+    for (uint32_t p = 0; p < pairs; p++) {
+        d[p] = (uint16_t)little(s->distances + 2 * p, 2);
+        if (d[p] > 50000) {
+            return 7;
+        }
+    }
+    if (s->tree_n != s->n || s->v < s->n + 1 || s->v > 2 * s->n - 2) {
+        return 8;
+    }
+    uint32_t children[MAX_V] = {0};
+    for (uint32_t v = 0; v + 1 < s->v; v++) {
+        parent[v] = s->parents[v];
+        if (parent[v] <= v || parent[v] < s->n || parent[v] > s->v - 1) {
+            return 9;
+        }
+    }
+    for (uint32_t v = 0; v + 1 < s->v; v++) {
+        children[parent[v]]++;
+    }
+    for (uint32_t v = s->n; v < s->v; v++) {
+        if (children[v] < (v == s->v - 1 ? 3u : 2u)) {
+            return 10;
+        }
+    }
+    if (s->k != s->v - 1) {
+        return 11;
+    }
+    if (s->d < 1 || s->d > 1000000) {
+        return 12;
+    }
+    for (uint32_t v = 0; v < s->k; v++) {
+        n[v] = (int64_t)little(s->numerators + 8 * v, 8);
+        if (n[v] > 100000000000 || n[v] < -100000000000) {
+            return 13;
+        }
+    }
+    return 0;
+}
+
+uint32_t plain_triple(const uint8_t *bytes, size_t length) {
+    struct sheet s;
+    uint16_t d[MAX_N * MAX_N];
+    uint8_t parent[MAX_V];
+    int64_t n[MAX_V];
+    uint32_t number = read_form(bytes, length, &s);
+    if (number == 0) {
+        number = read_held(&s, d, parent, n);
+    }
+    if (number != 0) {
+        return number;
+    }
+    static uint8_t below[MAX_V][MAX_N];
+    memset(below, 0, sizeof below);
+    for (uint32_t i = 0; i < s.n; i++) {
+        for (uint32_t v = i;; v = parent[v]) {
+            below[v][i] = 1;
+            if (v == s.v - 1) {
+                break;
+            }
+        }
+    }
+    static int64_t remainder[MAX_N * MAX_N];
+    uint32_t p = 0;
+    for (uint32_t i = 0; i < s.n; i++) {
+        for (uint32_t j = i + 1; j < s.n; j++, p++) {
+            int64_t path = 0;
+            for (uint32_t v = 0; v < s.k; v++) {
+                if (below[v][i] != below[v][j]) {
+                    path += n[v];
+                }
+            }
+            remainder[p] = (int64_t)s.d * d[p] - path;
+        }
+    }
+    for (uint32_t v = 0; v < s.k; v++) {
+        __int128 sum = 0;
+        p = 0;
+        for (uint32_t i = 0; i < s.n; i++) {
+            for (uint32_t j = i + 1; j < s.n; j++, p++) {
+                if (below[v][i] != below[v][j]) {
+                    sum += remainder[p];
+                }
+            }
+        }
+        if (sum != 0) {
+            return 14;
+        }
+    }
+    return 0;
+}
+
+uint32_t plain_pass(const uint8_t *bytes, size_t length) {
+    struct sheet s;
+    uint16_t d[MAX_N * MAX_N];
+    uint8_t parent[MAX_V];
+    int64_t n[MAX_V];
+    uint32_t number = read_form(bytes, length, &s);
+    if (number == 0) {
+        number = read_held(&s, d, parent, n);
+    }
+    if (number != 0) {
+        return number;
+    }
+    /* the strains below each vertex so far, as a list; each strain's way up to the vertex that it is listed at */
+    uint8_t list[MAX_V][MAX_N], count[MAX_V] = {0};
+    int64_t way[MAX_N] = {0}, sum[MAX_V] = {0}, across[MAX_V] = {0};
+    for (uint32_t i = 0; i < s.n; i++) {
+        list[i][0] = (uint8_t)i;
+        count[i] = 1;
+    }
+    for (uint32_t v = 0; v < s.k; v++) {
+        uint32_t up = parent[v];
+        for (uint32_t a = 0; a < count[v]; a++) {
+            uint32_t i = list[v][a];
+            way[i] += n[v];
+            for (uint32_t b = 0; b < count[up]; b++) {
+                uint32_t j = list[up][b], low = i < j ? i : j, high = i < j ? j : i;
+                int64_t r = (int64_t)s.d * d[low * (2 * s.n - low - 1) / 2 + high - low - 1] - way[i] - way[j];
+                sum[i] += r;
+                sum[j] += r;
+                across[up] += r;
+            }
+        }
+        memcpy(list[up] + count[up], list[v], count[v]);
+        count[up] = (uint8_t)(count[up] + count[v]);
+    }
+    /* an outer edge has its strain's row; an inner one its children's sums, less twice what met there */
+    for (uint32_t v = 0; v < s.k; v++) {
+        int64_t own = sum[v] - 2 * across[v];
+        if (own != 0) {
+            return 14;
+        }
+        sum[parent[v]] += own;
+    }
+    return 0;
+}
