@@ -114,6 +114,16 @@ static void grow(struct parts *p, uint32_t n) {
     p->k = next;
 }
 
+/* The most edges that 64 strains can have: each inner vertex has one strain more below it. */
+static void caterpillar(struct parts *p) {
+    for (uint32_t v = 0; v < 125; v++) {
+        p->parents[v] = (uint8_t)(v < 2 ? 64 : v < 62 ? 63 + v : v < 64 ? 125 : v + 1);
+    }
+    p->n = p->tree_n = 64;
+    p->v = 126;
+    p->k = 125;
+}
+
 /* Distances that the lengths fit: the paths, and units that every edge's sum leaves out. */
 static void fit(struct parts *p) {
     uint64_t below[128] = {0};
@@ -192,20 +202,7 @@ int main(void) {
     }
     edge = map + ROOM;
     /* every length from 0 to 5,200: zeros, chance, and the longest valid sheet cut or drawn out */
-    grow(&p, 64);
-    while (p.v != 126) {
-        grow(&p, 64);
-        for (uint32_t v = 0, next = 64; v < 63; v++, next++) { /* a caterpillar has the most edges */
-            p.parents[v == 0 ? 0 : v] = (uint8_t)(v < 2 ? 64 : 64 + v - 1);
-            (void)next;
-        }
-        p.parents[62] = p.parents[63] = 125;
-        for (uint32_t v = 64; v < 125; v++) {
-            p.parents[v] = (uint8_t)(v + 1);
-        }
-        p.v = 126;
-        p.k = 125;
-    }
+    caterpillar(&p);
     fit(&p);
     size_t whole = write_sheet(&p, sheet);
     for (size_t length = 0; length <= 5200; length++) {
@@ -236,6 +233,8 @@ int main(void) {
         size_t length = write_sheet(&p, sheet);
         lend_and_compare(sheet, length);
         lend_and_compare(sheet, (size_t)chance(length));
+        sheet[length] = 0;
+        lend_and_compare(sheet, length + 1);
         for (int changes = 0; changes < 6; changes++) {
             size_t place = (size_t)chance(changes < 3 ? length : (length < 40 ? length : 40));
             uint8_t old = sheet[place];

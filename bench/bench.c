@@ -1,0 +1,149 @@
+/* Nanoseconds a verdict, at N = 8, 16, 32 and 64, on a balanced tree, a caterpillar and a random one: the proved
+ * library, a plain one-pass reading and the plain triple loop, all in this one program. Sheets are accepted
+ * ones, so every equation is worked. Nothing is cleared between calls; each lends the same bytes. */
+#include <stdio.h>
+#include <string.h>
+#include <time.h>
+
+#include "plain.h"
+#include "vamuthexa.h"
+
+static double now(void) {
+    struct timespec t;
+    clock_gettime(CLOCK_MONOTONIC, &t);
+    return (double)t.tv_sec * 1e9 + (double)t.tv_nsec;
+}
+
+static volatile uint32_t kept;
+
+/* The least of five runs, each of at least 20 ms. */
+static double time_of(uint32_t (*verdict)(const uint8_t *, size_t), const uint8_t *sheet, size_t length) {
+    double best = 1e18;
+    for (int run = 0; run < 5; run++) {
+        long calls = 0;
+        double start = now(), end;
+        do {
+            for (int k = 0; k < 16; k++) {
+                kept = verdict(sheet, length);
+            }
+            calls += 16;
+            end = now();
+        } while (end - start < 2e7);
+        if ((end - start) / (double)calls < best) {
+            best = (end - start) / (double)calls;
+        }
+    }
+    return best;
+}
+
+static size_t put(uint8_t *at, uint64_t x, int bytes) {
+    for (int i = 0; i < bytes; i++) {
+        at[i] = (uint8_t)(x >> (8 * i));
+    }
+    return (size_t)bytes;
+}
+
+static uint64_t state = 88172645463325252u;
+
+static uint32_t chance(uint32_t below) {
+    state ^= state << 13;
+    state ^= state >> 7;
+    state ^= state << 17;
+    return (uint32_t)(state % below);
+}
+
+/* A resolved tree by joining two of the nodes that are left: the first two, the last two, or any. */
+static void grow(uint8_t parents[], uint32_t n, int shape) {
+    uint32_t nodes[64] = {0}, left = n, next = n;
+    for (uint32_t i = 0; i < n; i++) {
+        nodes[i] = i;
+    }
+    while (left > 3) {
+        uint32_t a = shape == 0 ? 0 : shape == 1 ? left - 2 : chance(left), b;
+        if (shape == 2) {
+            do {
+                b = chance(left);
+            } while (b == a);
+        } else {
+            b = a + 1;
+        }
+        parents[nodes[a]] = parents[nodes[b]] = (uint8_t)next;
+        if (shape == 0) { /* the joined pair goes to the back: level by level */
+            memmove(nodes, nodes + 2, (left - 2) * sizeof nodes[0]);
+            nodes[left - 2] = next++;
+        } else if (shape == 1) { /* the joined pair stays last: one strain more each time */
+            nodes[left - 2] = next++;
+        } else {
+            nodes[a] = next++;
+            nodes[b] = nodes[left - 1];
+        }
+        left--;
+    }
+    for (uint32_t i = 0; i < 3; i++) {
+        parents[nodes[i]] = (uint8_t)next;
+    }
+}
+
+/* An accepted sheet: whole lengths, and their paths as distances. */
+static size_t write_sheet(uint32_t n, int shape, uint8_t *out) {
+    uint8_t parents[128];
+    uint32_t k = 2 * n - 3;
+    uint64_t below[128] = {0};
+    grow(parents, n, shape);
+    for (uint32_t i = 0; i < n; i++) {
+        for (uint32_t v = i;; v = parents[v]) {
+            below[v] |= (uint64_t)1 << i;
+            if (v == k) {
+                break;
+            }
+        }
+    }
+    size_t at = put(out, 2 + n * (n - 1), 4);
+    at += put(out + at, 1, 2);
+    at += put(out + at, n, 2);
+    for (uint32_t i = 0; i < n; i++) {
+        for (uint32_t j = i + 1; j < n; j++) {
+            uint32_t path = 0;
+            for (uint32_t v = 0; v < k; v++) {
+                path += (below[v] >> i & 1) != (below[v] >> j & 1) ? 7 + v : 0;
+            }
+            at += put(out + at, path, 2);
+        }
+    }
+    at += put(out + at, 4 + k, 4);
+    at += put(out + at, 2, 2);
+    at += put(out + at, n, 2);
+    at += put(out + at, k + 1, 2);
+    for (uint32_t v = 0; v < k; v++) {
+        at += put(out + at, parents[v], 1);
+    }
+    at += put(out + at, 6 + 8 * k, 4);
+    at += put(out + at, 3, 2);
+    at += put(out + at, 1, 4);
+    at += put(out + at, k, 2);
+    for (uint32_t v = 0; v < k; v++) {
+        at += put(out + at, 7 + v, 8);
+    }
+    return at;
+}
+
+int main(void) {
+    static const char *const shapes[] = {"balanced", "caterpillar", "random"};
+    static uint8_t sheet[8192];
+    printf("| N | tree | ours, ns | one pass, ns | triple loop, ns | ours / one pass | ours / triple loop |\n");
+    printf("|---|---|---|---|---|---|---|\n");
+    for (uint32_t n = 8; n <= 64; n *= 2) {
+        for (int shape = 0; shape < 3; shape++) {
+            size_t length = write_sheet(n, shape, sheet);
+            if (sheet_verdict(sheet, length) != 0 || plain_pass(sheet, length) != 0 || plain_triple(sheet, length) != 0) {
+                printf("a sheet that is not accepted: N = %u, %s\n", n, shapes[shape]);
+                return 1;
+            }
+            double ours = time_of(sheet_verdict, sheet, length);
+            double pass = time_of(plain_pass, sheet, length);
+            double triple = time_of(plain_triple, sheet, length);
+            printf("| %u | %s | %.0f | %.0f | %.0f | %.2f | %.4f |\n", n, shapes[shape], ours, pass, triple, ours / pass, ours / triple);
+        }
+    }
+    return 0;
+}
