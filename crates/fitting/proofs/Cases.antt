@@ -3,16 +3,12 @@
 use mathlib.Core.Path.{_≡_, _∙_, ap}
 use mathlib.Core.List.{List}
 use Prim.Native.Nat.{ℕ, _≤_}
-use native.Mathlib.Decide.{decLt}
 use native.Mathlib.Omega.{arith}
 use lib.IntN.{ℤ, pos, natAbs}
-use lib.ListN.{length, getD, List·getD-eq-default}
+use lib.ListN.{length}
 use Rattle.exact.specs.Sum.{pairs}
 use Rattle.exact.specs.LeastSquares.{edgeSum}
-use Rattle.exact.proofs.Decide.{by-cases}
-use Rattle.matrix.specs.Limits.{maxDistance}
 use Rattle.matrix.specs.Place.{distance}
-use Rattle.matrix.proofs.Places.{pairs-few}
 use Rattle.tree.specs.Chain.{parentOf, partsPair}
 use Rattle.walk.specs.Standing.{entryOf}
 use Rattle.fitting.specs.declared.Case.{Case}
@@ -20,27 +16,18 @@ use Rattle.fitting.specs.Quantities.{remaindersOf}
 use Rattle.fitting.specs.Ready.{ReadyCase, caseSum}
 use Rattle.fitting.specs.Answers.{Parts}
 use Rattle.fitting.proofs.Exactly.{Sound}
-use Rattle.fitting.proofs.Transfer.{kept-at, distances-kept, numerators-kept, small, parents-kept, standing}
+use Rattle.fitting.proofs.Transfer.{distances-near, numerators-kept, small, standing, tree-moved}
 
 -- a quantity of the six things that the sums are taken over
 abbrev Quantity : Type 0
 Quantity = ℕ → ℕ → ℕ → (ℕ → ℕ) → (ℕ × ℕ → ℤ) → (ℕ → ℤ) → ℤ
 
 module _ (N : ℕ) (ds ps : List ℕ) (D : ℕ) (ns : List ℤ) (s : Sound N ds ps D ns) (r : Case) (p : Parts N ds ps D ns r) where
-  pairs-fit : length ds ≤ 2016
-  pairs-fit = omega (arith, s .matrix .whole, pairs-few N (s .matrix .few))
-
   edges-fit : length ps ≤ 125
   edges-fit = s .lengths .few
 
   numerators-fit : length ns ≤ 125
   numerators-fit = omega (arith, s .lengths .whole, edges-fit)
-
-  pub same-parents : parentOf (r .tree .parents) ≡ parentOf ps
-  same-parents = parents-kept N ps (r .tree) (p .tree) edges-fit
-
-  pub same-distances : distance N (r .matrix .distances) ≡ distance N ds
-  same-distances = distances-kept N ds (r .matrix) (p .matrix) pairs-fit
 
   pub same-numerators : entryOf (r .lengths .numerators) ≡ entryOf ns
   same-numerators = numerators-kept D ns (r .lengths) (p .lengths) numerators-fit
@@ -50,19 +37,9 @@ module _ (N : ℕ) (ds ps : List ℕ) (D : ℕ) (ns : List ℤ) (s : Sound N ds 
       → q (r .tree .n) (r .tree .edges) (r .lengths .denominator) (parentOf (r .tree .parents)) (distance (r .tree .n) (r .matrix .distances)) (entryOf (r .lengths .numerators))
       ≡ q N (length ps) D (parentOf ps) (distance N ds) (entryOf ns)
   moved q =
-      ap (λ (k : ℕ). q k (r .tree .edges) (r .lengths .denominator) (parentOf (r .tree .parents)) (distance k (r .matrix .distances)) (entryOf (r .lengths .numerators))) (p .tree .strains)
-      ∙ ap (λ (k : ℕ). q N k (r .lengths .denominator) (parentOf (r .tree .parents)) (distance N (r .matrix .distances)) (entryOf (r .lengths .numerators))) (p .tree .size)
-      ∙ ap (λ (k : ℕ). q N (length ps) k (parentOf (r .tree .parents)) (distance N (r .matrix .distances)) (entryOf (r .lengths .numerators))) (p .lengths .denominator)
-      ∙ ap (λ (f : ℕ → ℕ). q N (length ps) D f (distance N (r .matrix .distances)) (entryOf (r .lengths .numerators))) same-parents
-      ∙ ap (λ (f : ℕ × ℕ → ℤ). q N (length ps) D (parentOf ps) f (entryOf (r .lengths .numerators))) same-distances
+      tree-moved N ds ps (r .matrix) (r .tree) (p .matrix) (p .tree) (s .matrix) edges-fit (λ N′ K par d. q N′ K (r .lengths .denominator) par d (entryOf (r .lengths .numerators)))
+      ∙ ap (λ (k : ℕ). q N (length ps) k (parentOf ps) (distance N ds) (entryOf (r .lengths .numerators))) (p .lengths .denominator)
       ∙ ap (λ (f : ℕ → ℤ). q N (length ps) D (parentOf ps) (distance N ds) f) same-numerators
-
-  near : (k : ℕ) → getD (r .matrix .distances) k 0 ≤ maxDistance
-  near k = omega (
-    arith,
-    kept-at 0 2016 ds (r .matrix .distances) (p .matrix .distances) pairs-fit k,
-    by-cases (decLt k (length ds)) (s .matrix .near k) (λ ge. omega (arith, List·getD-eq-default ds 0 {n = k} (omega arith))),
-  )
 
   pub ready : ReadyCase (r .matrix) (r .tree) (r .lengths)
   ready = record {
@@ -70,10 +47,8 @@ module _ (N : ℕ) (ds ps : List ℕ) (D : ℕ) (ns : List ℤ) (s : Sound N ds 
       standing = standing N ps (r .tree) (p .tree) (s .tree);
       one = omega (arith, s .lengths .one, p .lengths .denominator);
       most = omega (arith, s .lengths .most, p .lengths .denominator);
-      near = near;
-      small = record {
-        near = λ v l. small D ns (r .lengths) (p .lengths) (length ps) (s .lengths) .near v (omega (arith, p .tree .size, p .lengths .edges, s .lengths .whole));
-      };
+      near = distances-near N ds (r .matrix) (p .matrix) (s .matrix);
+      small = small D ns (r .lengths) (p .lengths) (r .tree .edges) (length ps) (p .tree .size) (s .lengths);
     };
     range = record {
       near = λ v l. omega (arith, ap (λ (f : ℕ → ℤ). natAbs (f v)) same-numerators, s .lengths .near v (omega (arith, p .tree .size, s .lengths .whole)));

@@ -5,6 +5,10 @@ pub mod Demand3
 pub mod Transfer
 pub mod Cases
 pub mod Chained
+pub mod Filling
+pub mod Splitting
+pub mod Lent
+pub mod Settled
 pub mod Reporting
 pub mod Reports
 pub mod OneReport

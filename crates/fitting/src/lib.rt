@@ -160,6 +160,112 @@ fn copy_out(edges: usize, from: &[i64; Tree::MAX_EDGES], to: &mut [i64])
     }
 }
 
+fn no_lengths() -> [i64; Tree::MAX_EDGES]
+    ensures { λ r. ⌜ r ≡ table 125 (λ _. pos 0) ⌝ }
+{
+    [0; Tree::MAX_EDGES]
+}
+
+// The split sum of each edge: what its remainders would add to over a denominator of 1 and no lengths.
+fn split(matrix: Matrix, tree: Tree) -> [i64; Tree::MAX_EDGES]
+    requires { ⌜ Standing (tree .n) (tree .edges) (tree .parents) (tree .clusters) ⌝ }
+    requires { ⌜ ((k : ℕ) → getD (matrix .distances) k 0 ≤ maxDistance) ⌝ }
+    ensures { λ r. ⌜ ((v : ℕ) → v < tree .edges → entryOf r v ≡ pairs (tree .n) (λ p. ind (partsPair (parentOf (tree .parents)) v p) *ℤ distance (tree .n) (matrix .distances) p)) ⌝ }
+{
+    let distances = matrix.distances;
+    let parents = tree.parents;
+    let clusters = tree.clusters;
+    let none = no_lengths();
+    sums::edge_sums(
+        tree.n,
+        tree.edges,
+        1,
+        &distances,
+        &parents,
+        &clusters,
+        &none,
+    )
+}
+
+// Split sums: 4, 6 to 10, 15, the first that applies; a refusal leaves the buffer as it was.
+pub fn split_sums(n: u32, distances: &[u16], parents: &[u8], sums: &mut [i64]) -> Verdict
+    ensures { λ r. ⌜ SplitAnswer n (now (distances .entry)) (now (parents .entry)) (now (sums .entry)) (now (sums .exit)) r ⌝ }
+{
+    let measured = Matrix::new(n, distances);
+    let planted = Tree::new(n, parents);
+    let of_matrix = measured.verdict;
+    let of_tree = planted.verdict;
+    let found = verdict::or_else(of_matrix, of_tree);
+    if let Verdict::Refused(reason) = found {
+        return Verdict::Refused(reason);
+    }
+    let edges = parents.len();
+    if sums.len() != edges {
+        return Verdict::Refused(Reason::Buffer);
+    }
+    let matrix = measured.matrix;
+    let tree = planted.tree;
+    let worked = split(matrix, tree);
+    copy_out(edges, &worked, sums);
+    Verdict::Accepted
+}
+
+// Each pair's path, at the pair's place.
+fn fill_paths(
+    n: usize,
+    edges: usize,
+    parents: &[u8; Tree::MAX_EDGES],
+    clusters: &[u64; Tree::MAX_VERTICES],
+    numerators: &[i64; Tree::MAX_EDGES],
+    paths: &mut [i64],
+)
+    requires { ⌜ Standing n edges (now parents) (now clusters) ⌝ }
+    requires { ⌜ Small edges (now numerators) ⌝ }
+    requires { ⌜ length (now paths) ≡ pairCount n ⌝ }
+    ensures { λ _. ⌜ length (now (paths .exit)) ≡ length (now (paths .entry)) ⌝ }
+    ensures { λ _. ⌜ ((i j : ℕ) → i < j → j < n → entryOf (now (paths .exit)) (place n i j) ≡ path edges (partsPair (parentOf (now (parents .entry)))) (entryOf (now (numerators .entry))) (i, j)) ⌝ }
+{
+    let mut i = 0;
+    let mut j = 1;
+    while j < n {
+        let at = matrix::place(n, i, j);
+        paths[at] = walk::path(n, edges, parents, clusters, numerators, i, j);
+        let next = sums::next_pair(i, j);
+        i = next.i;
+        j = next.j;
+    }
+}
+
+// Path lengths: 6, 8 to 13, 15, the first that applies; a refusal leaves the buffer as it was.
+pub fn path_lengths(
+    n: u32,
+    parents: &[u8],
+    d: u32,
+    numerators: &[i64],
+    paths: &mut [i64],
+) -> Verdict
+    ensures { λ r. ⌜ PathsAnswer n (now (parents .entry)) d (now (numerators .entry)) (now (paths .entry)) (now (paths .exit)) r ⌝ }
+{
+    let planted = Tree::new(n, parents);
+    let proposed = Lengths::new(parents.len(), d, numerators);
+    let of_tree = planted.verdict;
+    let of_lengths = proposed.verdict;
+    let found = verdict::or_else(of_tree, of_lengths);
+    if let Verdict::Refused(reason) = found {
+        return Verdict::Refused(reason);
+    }
+    if paths.len() as u64 != matrix::pair_count(n) {
+        return Verdict::Refused(Reason::Buffer);
+    }
+    let tree = planted.tree;
+    let lengths = proposed.lengths;
+    let kept = tree.parents;
+    let clusters = tree.clusters;
+    let table = lengths.numerators;
+    fill_paths(tree.n, tree.edges, &kept, &clusters, &table, paths);
+    Verdict::Accepted
+}
+
 // A verdict, and nothing more.
 fn silent(reason: Reason) -> FitReport
     ensures { λ r. ⌜ (r .verdict ≡ Verdict.Refused reason) × Silent r ⌝ }

@@ -1,5 +1,5 @@
 -- The places of the pairs: `row-code` is what the code computes, `place-bound` and `place-onto` say that the pairs fill exactly
--- the places below N(N-1)/2.
+-- the places below N(N-1)/2, and `place-one` that no two share a place.
 use mathlib.Core.Path.{_≡_, refl, sym, ap, subst}
 use Prim.Native.Nat.{ℕ, zero, suc, _+_, _-_, _*_, _/_, _≤_, _<_}
 use native.Mathlib.Decide.{decLt, ℕ-discrete}
@@ -34,11 +34,27 @@ row-mono N i (suc k) h =
     let ih : i ≤ k → rowStart N i ≤ rowStart N k = row-mono N i k in
     by-cases (ℕ-discrete i (suc k)) (λ e. subst (λ (t : ℕ). rowStart N t ≤ rowStart N (suc k)) (sym e) (omega arith)) (λ e. omega (arith, ih (omega arith)))
 
+-- a row ends where the next begins
+row-end : (N i j : ℕ) → i < j → j < N → place N i j < rowStart N (suc i)
+unfolding place rowStart
+row-end N i j h k = omega arith
+
 pub place-bound : (N i j : ℕ) → i < j → j < N → place N i j < pairCount N
-place-bound N i j h k = unfold place in omega (arith, next, row-mono N (suc i) N (omega arith), row-last N)
-  where
-    next : rowStart N (suc i) ≡ rowStart N i + (N - suc i)
-    next = unfold rowStart in refl
+place-bound N i j h k = omega (arith, row-end N i j h k, row-mono N (suc i) N (omega arith), row-last N)
+
+-- a pair of an earlier row stands earlier
+place-less : (N a b i j : ℕ) → a < b → b < N → a < i → place N a b < place N i j
+unfolding place
+place-less N a b i j h k l = omega (arith, row-end N a b h k, row-mono N (suc a) i l)
+
+-- one pair at each place
+pub place-one : (N a b i j : ℕ) → a < b → b < N → i < j → j < N → place N a b ≡ place N i j → (a ≡ i) × (b ≡ j)
+unfolding place
+place-one N a b i j h k l m e = by-cases (ℕ-discrete a i)
+    (λ q. (q, omega (arith, ap (rowStart N) q)))
+    (λ q. by-cases (decLt a i)
+    (λ lt. absurd (omega (arith, place-less N a b i j h k lt)))
+    (λ ge. absurd (omega (arith, place-less N i j a b l m (omega arith)))))
 
 -- the pair that stands at k
 pub record PairAt (N k : ℕ) : Type 0 where

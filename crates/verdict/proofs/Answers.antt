@@ -82,6 +82,22 @@ first-refusal r m = keeps (refusalOf r) (not-zero r)
     keeps zero h = absurd (h refl)
     keeps (suc k) h = refl
 
+-- a row of tests by the answer to its first: a refusal is the row's number, otherwise the rest decides
+pub refused-row : (r : Reason) (v : Verdict) (a b : ℕ) → v ≡ Refused r → numberOf v ≡ a → refusalOf r ≡ (a orElse b)
+refused-row r v a b e f = sym (first-refusal r b) ∙ ap (λ (z : ℕ). z orElse b) (sym (ap numberOf e) ∙ f)
+
+pub accepted-row : (v : Verdict) (a b : ℕ) → v ≡ Accepted → numberOf v ≡ a → b ≡ (a orElse b)
+accepted-row v a b e f = ap (λ (z : ℕ). z orElse b) (sym (ap numberOf e) ∙ f)
+
+-- tests in a row may be grouped, and asked once more
+pub orElse-assoc : (a b d : ℕ) → ((a orElse b) orElse d) ≡ (a orElse (b orElse d))
+orElse-assoc zero b d = refl
+orElse-assoc (suc a) b d = refl
+
+pub orElse-again : (a b : ℕ) → (a orElse (a orElse b)) ≡ (a orElse b)
+orElse-again zero b = refl
+orElse-again (suc a) b = refl
+
 -- a test gives 0 exactly where it does not apply
 pub test-zero : (k : ℕ) (b : Bool) → test (suc k) b ≡ 0 → b ≡ false
 test-zero k true e = absurd (omega arith)

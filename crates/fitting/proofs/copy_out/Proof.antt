@@ -1,5 +1,5 @@
-use borrow.Author.Needs.{needs}
 -- The buffer is filled from the front.
+use borrow.Author.Needs.{needs}
 use mathlib.Core.Path.{_≡_, refl}
 use Prim.Native.Nat.{_≤_, _-_}
 use native.Mathlib.Omega.{arith}

@@ -1,5 +1,5 @@
-use borrow.Author.Needs.{needs}
 -- Every sum passed so far is zero.
+use borrow.Author.Needs.{needs}
 use mathlib.Core.Path.{_≡_, sym}
 use mathlib.Core.Bool.{false, not}
 use Prim.Native.Nat.{ℕ, _≤_, _<_, _-_}

@@ -1,13 +1,21 @@
 -- Within the column one further on; at its end the next column, where nothing has been added yet.
 use mathlib.Core.Path.{_≡_, refl, sym, ap, _∙_}
-use Prim.Native.Nat.{ℕ, suc}
+use mathlib.Core.Logic.{_⊎_, inl, inr, ⊎-elim}
+use Prim.Native.Nat.{ℕ, suc, _≤_}
+use native.Mathlib.Decide.{decLt}
 use native.Mathlib.Numerals.{add-one}
 use native.Mathlib.Omega.{arith}
 use Rattle.exact.specs.Sum.{sweep}
+use Rattle.exact.proofs.Decide.{by-cases}
 use Rattle.exact.proofs.Sweep.{sweep-step, sweep-column}
 use borrow.Author.Needs.{needs}
+use Rattle.sums.specs.Next.{Before}
 use Rattle.sums.proofs.next_pair.Statement.{statement}
 use Rattle.sums.proofs.next_pair.Tie as tie
+
+-- in column j, up to i
+in-column : (i j a b : ℕ) → b ≡ j → a ≤ i → Before i j a b ⊎ ((a ≡ i) × (b ≡ j))
+in-column i j a b e l = by-cases (decLt a i) (λ k. inl (inr (e, k))) (λ k. inr (omega arith, e))
 
 add-if1 : tie.Need-add-if1
 add-if1 c = search needs
@@ -25,6 +33,7 @@ returns c =
     record {
       rising = omega arith;
       adds = λ f. ap (λ (k : ℕ). sweep f j k) (add-one i) ∙ sweep-step f j i;
+      visits = λ a b l. ⊎-elim (λ h. inl (inl h)) (λ h. in-column i j a b (h .0) (omega arith));
       within = λ n h. omega arith;
       last = λ n h e. absurd (omega arith);
       nearer = λ n h. omega arith;
@@ -38,6 +47,9 @@ returns-2 c =
     record {
       rising = omega arith;
       adds = λ f. ap (λ (k : ℕ). sweep f k 0) (add-one j) ∙ sweep-column f j ∙ ap (sweep f j) (sym top) ∙ sweep-step f j i;
+      visits = λ a b l. ⊎-elim
+          (λ h. by-cases (decLt b j) (λ k. inl (inl k)) (λ k. in-column i j a b (omega arith) (omega arith)))
+          (λ h. absurd (omega arith));
       within = λ n h. omega arith;
       last = λ n h e. refl;
       nearer = λ n h. omega arith;
