@@ -1,0 +1,68 @@
+-- Sheet A, byte by byte: its form, what its records hold, and its number, computed.
+use mathlib.Core.Path.{_≡_, refl}
+use mathlib.Core.List.{List, [], _∷_}
+use Prim.Native.Nat.{ℕ}
+use lib.IntN.{pos, negsuc}
+use lib.ListN.{length}
+use Rattle.exact.specs.Sum.{sum, pairs, ind}
+use Rattle.exact.specs.Table.{tableFrom}
+use Rattle.exact.specs.LeastSquares.{path}
+use Rattle.verdict.specs.Table.{some, count}
+use Rattle.matrix.specs.Place.{rowStart, place}
+use Rattle.tree.specs.Chain.{lift, below, parts}
+use Rattle.sheet.specs.Bytes.{number, twos}
+use Rattle.sheet.specs.Form.{formNumber}
+use Rattle.sheet.specs.Holds.{strainsOf, distancesOf, treeStrainsOf, parentsOf, denominatorOf, numeratorsOf}
+use Rattle.sheet.specs.Tests.{sheetNumber}
+
+-- three heads, each with its body
+abbrev pub sheetA : List ℕ
+sheetA =
+    14 ∷ 0 ∷ 0 ∷ 0 ∷ 1 ∷ 0
+    ∷ 4 ∷ 0 ∷ 3 ∷ 0 ∷ 7 ∷ 0 ∷ 8 ∷ 0 ∷ 6 ∷ 0 ∷ 9 ∷ 0 ∷ 5 ∷ 0
+    ∷ 9 ∷ 0 ∷ 0 ∷ 0 ∷ 2 ∷ 0
+    ∷ 4 ∷ 0 ∷ 6 ∷ 0 ∷ 4 ∷ 4 ∷ 5 ∷ 5 ∷ 5
+    ∷ 46 ∷ 0 ∷ 0 ∷ 0 ∷ 3 ∷ 0
+    ∷ 2 ∷ 0 ∷ 0 ∷ 0 ∷ 5 ∷ 0
+    ∷ 3 ∷ 0 ∷ 0 ∷ 0 ∷ 0 ∷ 0 ∷ 0 ∷ 0
+    ∷ 3 ∷ 0 ∷ 0 ∷ 0 ∷ 0 ∷ 0 ∷ 0 ∷ 0
+    ∷ 3 ∷ 0 ∷ 0 ∷ 0 ∷ 0 ∷ 0 ∷ 0 ∷ 0
+    ∷ 7 ∷ 0 ∷ 0 ∷ 0 ∷ 0 ∷ 0 ∷ 0 ∷ 0
+    ∷ 7 ∷ 0 ∷ 0 ∷ 0 ∷ 0 ∷ 0 ∷ 0 ∷ 0
+    ∷ []
+
+pub all-bytes : length sheetA ≡ 87
+all-bytes = refl
+
+pub form : formNumber sheetA ≡ 0
+unfolding number
+form = refl
+
+pub strains : (strainsOf sheetA ≡ 4) × (treeStrainsOf sheetA ≡ 4)
+unfolding number
+strains = (refl, refl)
+
+pub distances : distancesOf sheetA ≡ 3 ∷ 7 ∷ 8 ∷ 6 ∷ 9 ∷ 5 ∷ []
+unfolding number tableFrom
+distances = refl
+
+pub parents : parentsOf sheetA ≡ 4 ∷ 4 ∷ 5 ∷ 5 ∷ 5 ∷ []
+unfolding number tableFrom
+parents = refl
+
+pub denominator : denominatorOf sheetA ≡ 2
+unfolding number
+denominator = refl
+
+pub numerators : numeratorsOf sheetA ≡ pos 3 ∷ pos 3 ∷ pos 3 ∷ pos 7 ∷ pos 7 ∷ []
+unfolding number tableFrom
+numerators = refl
+
+pub accepted : sheetNumber sheetA ≡ 0
+unfolding sum pairs ind tableFrom path some count rowStart place lift below parts number
+accepted = refl
+
+-- eight bytes of a number below zero
+pub below-zero : twos (number 8 (253 ∷ 255 ∷ 255 ∷ 255 ∷ 255 ∷ 255 ∷ 255 ∷ 255 ∷ []) 0) ≡ negsuc 2
+unfolding number
+below-zero = refl

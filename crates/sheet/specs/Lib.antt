@@ -1,0 +1,5 @@
+pub mod Bytes
+pub mod Form
+pub mod Holds
+pub mod Laid
+pub mod Tests

@@ -1,0 +1,24 @@
+-- The number that a sheet gets: 1 to 5 for its form, then 6 to 14 for what its records hold.
+use mathlib.Core.Bool.{Bool, not}
+use mathlib.Core.List.{List}
+use Prim.Native.Nat.{ℕ}
+use lib.Dec.{eqb}
+use Rattle.verdict.specs.Number.{test, _orElse_}
+use Rattle.matrix.specs.Tests.{matrixNumber}
+use Rattle.fitting.specs.Tests.{judgeNumber}
+use Rattle.sheet.specs.Form.{formNumber}
+use Rattle.sheet.specs.Holds.{strainsOf, distancesOf, treeStrainsOf, parentsOf, denominatorOf, numeratorsOf}
+
+-- 8, here also: the tree's N differs from the matrix's
+abbrev pub strainsDiffer : List ℕ → Bool
+strainsDiffer s = not (eqb (treeStrainsOf s) (strainsOf s))
+
+-- the tests over what the records hold
+abbrev pub heldNumber : List ℕ → ℕ
+heldNumber s =
+    matrixNumber (strainsOf s) (distancesOf s)
+    orElse test 8 (strainsDiffer s)
+    orElse judgeNumber (strainsOf s) (distancesOf s) (parentsOf s) (denominatorOf s) (numeratorsOf s)
+
+abbrev pub sheetNumber : List ℕ → ℕ
+sheetNumber s = formNumber s orElse heldNumber s
