@@ -69,7 +69,7 @@ fn edge_line(text: &mut [u8], at: usize, v: u64, n: i64, m: i64) -> usize
     let next = text::put_word(text, at, b"edge ");
     let next = field(text, next, v, b' ');
     let next = signed_field(text, next, n, b' ');
-    signed_field(text, next, n, b'\n')
+    signed_field(text, next, m, b'\n')
 }
 
 // length, the numerator of the tree length.

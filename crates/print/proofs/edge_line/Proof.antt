@@ -36,8 +36,8 @@ returns c =
     let a = c .before .before .before .before .before .before .before .before .before .before .before .before .before .before .before .before .before .before .args in
     let n = toZ-ofZ (c .before .before .before .before .before .before .before .before .before .before .before .before .before .before .before .before .before .before .fits .n) in
     let m = toZ-ofZ (c .before .before .before .before .before .before .before .before .before .before .before .before .before .before .before .before .before .before .fits .m) in
-    let p = simp (n, m) at (c .before .before .before .before .before .before .signed-field .ensures) in
-    let q = simp (n, m) at (c .before .before .signed-field2 .ensures) in
+    let p = simp n at (c .before .before .before .before .before .before .signed-field .ensures) in
+    let q = simp m at (c .before .before .signed-field2 .ensures) in
     and-then (omega (arith, edge-length (a .v) (a .n) (a .m))) (c .before .before .before .before .before .before .before .before .before .before .before .before .before .before .put-word .ensures)
     (λ r. space-then (decimal (a .v)) r (c .before .before .before .before .before .before .before .before .before .before .field .ensures) (λ r. space-then (signed (a .n)) r p (λ _. q)))
 
