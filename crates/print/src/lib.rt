@@ -1,7 +1,6 @@
 // The print of a report, line by line, into a lent buffer: the bytes of document 01's print and no other.
-ghost use mathlib.Core.Path.{_≡_};
 ghost use mathlib.Core.List.{[], _∷_, _++_};
-ghost use Prim.Native.Nat.{ℕ, _+_, _*_, _≤_};
+ghost use Prim.Native.Nat.{_+_, _*_, _≤_};
 ghost use lib.IntN.{pos};
 ghost use lib.ListN.{length, getD};
 ghost use Rattle.text.specs.Text.{decimal, signed, Wrote};
