@@ -266,8 +266,8 @@ pub fn path_lengths(
     Verdict::Accepted
 }
 
-// A verdict, and nothing more.
-fn silent(reason: Reason) -> FitReport
+// The report of a refusal: its verdict, and nothing more.
+pub fn silent(reason: Reason) -> FitReport
     ensures { λ r. ⌜ (r .verdict ≡ Verdict.Refused reason) × Silent r ⌝ }
 {
     FitReport {

@@ -3,3 +3,4 @@ pub mod Form
 pub mod Holds
 pub mod Laid
 pub mod Tests
+pub mod Reads
