@@ -2,6 +2,8 @@ pub mod Numbers
 pub mod Heads
 pub mod InTurn
 pub mod Decoding
+pub mod Fronts
 pub mod Formed
+pub mod Accepted
 pub mod Readable
 pub mod Example

@@ -4,13 +4,16 @@
 //   matrix   = kind 1: N (2), then the N(N-1)/2 distances (2 each)
 //   tree     = kind 2: N (2), V (2), then the V-1 parents (1 each)
 //   lengths  = kind 3: D (4), K (2), then the K numerators (8 each, two's complement)
+use fitting::FitReport;
 use matrix::Matrix;
+use tree::Tree;
 use verdict::Reason;
 use verdict::Verdict;
 ghost use mathlib.Core.Path.{_≡_};
+ghost use mathlib.Core.List.{_++_};
 ghost use Prim.Native.Nat.{ℕ, _+_, _*_, _<_, _≤_};
 ghost use lib.IntN.{ℤ, pos};
-ghost use lib.ListN.{length};
+ghost use lib.ListN.{length, drop};
 ghost use Rattle.exact.specs.Table.{table};
 ghost use Rattle.verdict.specs.Number.{numberOf, test, _orElse_};
 ghost use Rattle.matrix.specs.Tests.{matrixNumber};
@@ -19,6 +22,7 @@ ghost use Rattle.sheet.specs.Form.{sizeAt, headNumber, recordNumber, mat
 ghost use Rattle.sheet.specs.Holds.{mostDistances, mostNumerators, padded};
 ghost use Rattle.sheet.specs.Laid.{LayoutAnswer};
 ghost use Rattle.sheet.specs.Tests.{heldNumber, sheetNumber};
+ghost use Rattle.sheet.specs.Reads.{SheetFit, SheetReport};
 
 // The most bytes of a sheet.
 const MAX_SHEET: usize = 5_187;
@@ -330,6 +334,82 @@ pub fn sheet_judge(s: &[u8]) -> Verdict
     match of_form {
         Verdict::Refused(reason) => Verdict::Refused(reason),
         Verdict::Accepted => held(s, tree, lengths),
+    }
+}
+
+fn no_lengths() -> [i64; Tree::MAX_EDGES]
+    ensures { λ r. ⌜ r ≡ table 125 (λ _. pos 0) ⌝ }
+{
+    [0; Tree::MAX_EDGES]
+}
+
+// A table into the front of a lent buffer; what stands behind it stays.
+fn put_front(from: &[i64], to: &mut [i64; Tree::MAX_EDGES])
+    requires { ⌜ (length (now from) ≤ 125) × (length (now to) ≡ 125) ⌝ }
+    ensures { λ _. ⌜ now (to .exit) ≡ now (from .entry) ++ drop (length (now (from .entry))) (now (to .entry)) ⌝ }
+{
+    let mut k = 0;
+    while k < from.len() {
+        to[k] = from[k];
+        k += 1;
+    }
+}
+
+// The report of an accepted sheet; its numerators and its rounded lengths go to the front of the buffers.
+fn fitted(
+    s: &[u8],
+    tree: usize,
+    lengths: usize,
+    numerators: &mut [i64; Tree::MAX_EDGES],
+    rounded: &mut [i64; Tree::MAX_EDGES],
+) -> FitReport
+    requires { ⌜ (sheetNumber (now s) ≡ 0) × (tree ≡ treeAt (now s)) × (lengths ≡ lengthsAt (now s)) ⌝ }
+    requires { ⌜ (length (now numerators) ≡ 125) × (length (now rounded) ≡ 125) ⌝ }
+    ensures { λ r. ⌜ numberOf (r .verdict) ≡ 0 ⌝ }
+    ensures { λ r. ⌜ SheetFit (now (s .entry)) (now (numerators .entry)) (now (numerators .exit)) (now (rounded .entry)) (now (rounded .exit)) r ⌝ }
+{
+    let n = u16_at(s, 6) as u32;
+    let pairs = matrix::pair_count(n) as usize;
+    let measured = distances(s, pairs);
+    let body = tree + 6;
+    let parents = body + 4;
+    let last = lengths + 6;
+    let d = u32_at(s, last);
+    let edges = u16_at(s, last + 4) as usize;
+    let proposed = self::numerators(s, last + 6, edges);
+    let mut thousandths = no_lengths();
+    let found = fitting::report(
+        n,
+        &measured[..pairs],
+        &s[parents..lengths],
+        d,
+        &proposed[..edges],
+        &mut thousandths[..edges],
+    );
+    put_front(&thousandths[..edges], rounded);
+    put_front(&proposed[..edges], numerators);
+    found
+}
+
+// The report on a sheet: 1 to 14, the first that applies; a refusal reports nothing and leaves both buffers
+// as they were.
+pub fn sheet_report(
+    s: &[u8],
+    numerators: &mut [i64; Tree::MAX_EDGES],
+    rounded: &mut [i64; Tree::MAX_EDGES],
+) -> FitReport
+    requires { ⌜ (length (now numerators) ≡ 125) × (length (now rounded) ≡ 125) ⌝ }
+    ensures { λ r. ⌜ SheetReport (now (s .entry)) (now (numerators .entry)) (now (numerators .exit)) (now (rounded .entry)) (now (rounded .exit)) r ⌝ }
+{
+    let found = sheet_judge(s);
+    match found {
+        Verdict::Refused(reason) => fitting::silent(reason),
+        Verdict::Accepted => {
+            let laid = records(s);
+            let tree = laid.tree;
+            let lengths = laid.lengths;
+            fitted(s, tree, lengths, numerators, rounded)
+        }
     }
 }
 
