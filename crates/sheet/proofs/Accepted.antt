@@ -61,7 +61,7 @@ module _ (s : List ℕ) (z : sheetNumber s ≡ 0) where
 
   -- the report of what was read, with a buffer of as many entries as there are edges
   module _ {n : ℕ} {ds ps : List ℕ} {d : ℕ} {ns : List ℤ} (w : ReadAs s n ds ps d ns)
-    {before after : List ℤ} {x : FitReport} (a : ReportAnswer n ds ps d ns before after x) (b : length before ≡ length ns) where
+      {before after : List ℤ} {x : FitReport} (a : ReportAnswer n ds ps d ns before after x) (b : length before ≡ length ns) where
     answer : ReportAnswer (strainsOf s) (distancesOf s) (parentsOf s) (denominatorOf s) (numeratorsOf s) before after x
     answer = rw (w .strains, w .distances, w .parents, w .denominator, w .numerators) at a
 

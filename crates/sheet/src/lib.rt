@@ -259,6 +259,12 @@ fn no_numerators() -> [i64; MAX_HELD_NUMERATORS]
     [0; MAX_HELD_NUMERATORS]
 }
 
+fn no_lengths() -> [i64; Tree::MAX_EDGES]
+    ensures { λ r. ⌜ r ≡ table 125 (λ _. pos 0) ⌝ }
+{
+    [0; Tree::MAX_EDGES]
+}
+
 // The distances of a sheet's matrix, then zeros.
 fn distances(s: &[u8], count: usize) -> [u16; MAX_HELD_DISTANCES]
     requires { ⌜ (count ≤ mostDistances) × (8 + 2 * count ≤ length (now s)) ⌝ }
@@ -337,12 +343,6 @@ pub fn sheet_judge(s: &[u8]) -> Verdict
     }
 }
 
-fn no_lengths() -> [i64; Tree::MAX_EDGES]
-    ensures { λ r. ⌜ r ≡ table 125 (λ _. pos 0) ⌝ }
-{
-    [0; Tree::MAX_EDGES]
-}
-
 // A table into the front of a lent buffer; what stands behind it stays.
 fn put_front(from: &[i64], to: &mut [i64; Tree::MAX_EDGES])
     requires { ⌜ (length (now from) ≤ 125) × (length (now to) ≡ 125) ⌝ }
@@ -371,8 +371,7 @@ fn fitted(
     let n = u16_at(s, 6) as u32;
     let pairs = matrix::pair_count(n) as usize;
     let measured = distances(s, pairs);
-    let body = tree + 6;
-    let parents = body + 4;
+    let parents = tree + 6 + 4;
     let last = lengths + 6;
     let d = u32_at(s, last);
     let edges = u16_at(s, last + 4) as usize;
@@ -406,9 +405,7 @@ pub fn sheet_report(
         Verdict::Refused(reason) => fitting::silent(reason),
         Verdict::Accepted => {
             let laid = records(s);
-            let tree = laid.tree;
-            let lengths = laid.lengths;
-            fitted(s, tree, lengths, numerators, rounded)
+            fitted(s, laid.tree, laid.lengths, numerators, rounded)
         }
     }
 }

@@ -8,6 +8,7 @@ ghost use Prim.Native.Nat.{_≤_};
 ghost use lib.ListN.{length};
 ghost use Rattle.text.specs.Text.{Wrote};
 ghost use Rattle.show.specs.Shown.{shown};
+ghost use Rattle.show.specs.Printed.{pageSize, SheetShown};
 
 // The print of a report whose numerators and rounded lengths stand in two tables.
 pub fn show(
@@ -41,4 +42,30 @@ pub fn show(
             report.mean,
         ),
     }
+}
+
+// A page that every print fits.
+pub fn page() -> [u8; 16384]
+    ensures { λ r. ⌜ pageSize ≡ length r ⌝ }
+{
+    [0; 16384]
+}
+
+fn no_lengths() -> [i64; Tree::MAX_EDGES]
+    ensures { λ r. ⌜ length r ≡ 125 ⌝ }
+{
+    [0; Tree::MAX_EDGES]
+}
+
+// The print of a sheet, at the front of a buffer of a page or more; a smaller one is left as it was.
+pub fn sheet_text(s: &[u8], text: &mut [u8]) -> usize
+    ensures { λ r. ⌜ SheetShown (now (s .entry)) (now (text .entry)) (now (text .exit)) r ⌝ }
+{
+    if text.len() < 16384 {
+        return 0;
+    }
+    let mut numerators = no_lengths();
+    let mut rounded = no_lengths();
+    let report = sheet::sheet_report(s, &mut numerators, &mut rounded);
+    show(report, &numerators, &rounded, text)
 }

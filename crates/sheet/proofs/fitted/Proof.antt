@@ -41,11 +41,12 @@ read-as : (c : tie.After-no-lengths)
     (take (start .before .args .lengths - (start .before .args .tree + 6 + 4)) (drop (start .before .args .tree + 6 + 4) (bytes start)))
     (c .before .before .before .u32-at .result) (take (c .before .before .u16-at2 .result) (c .before .numerators .result))
 read-as c =
-    let start = c .before .before .before .before .before .before .before in
+    let head = c .before .before .before .before .before .before in
+    let start = head .before in
     let w = here start in
     record {
-      strains = c .before .before .before .before .before .before .u16-at .ensures;
-      distances = distances-are w _ _ _ (c .before .before .before .before .before .before .u16-at .ensures) (c .before .before .before .before .before .pair-count .ensures) (c .before .before .before .before .distances .ensures);
+      strains = head .u16-at .ensures;
+      distances = distances-are w _ _ _ (head .u16-at .ensures) (c .before .before .before .before .before .pair-count .ensures) (c .before .before .before .before .distances .ensures);
       parents = parents-are w;
       denominator = c .before .before .before .u32-at .ensures ∙ ap (λ (a : ℕ). number 4 (bytes start) (a + 6)) (w .lengths-at);
       numerators = numerators-are w _ _ (c .before .before .u16-at2 .ensures) (c .before .numerators .ensures);
@@ -81,11 +82,11 @@ pair-count-requires c κs = search needs
 distances-requires : tie.Need-distances-requires
 distances-requires c κs = pairs-fit (here (c .before .before)) _ _ (c .before .u16-at .ensures) (c .pair-count .ensures)
 
-add-body : tie.Need-add-body
-add-body c = let w = here (c .before .before .before) in record { fits = omega (arith, w .tree, w .ends, w .short) }
-
 add-parents : tie.Need-add-parents
 add-parents c = let w = here (c .before .before .before) in record { fits = omega (arith, w .tree, w .ends, w .short) }
+
+add-parents-2 : tie.Need-add-parents-2
+add-parents-2 c = let w = here (c .before .before .before) in record { fits = omega (arith, w .tree, w .ends, w .short) }
 
 add-last : tie.Need-add-last
 add-last c = let w = here (c .before .before .before) in record { fits = omega (arith, w .tree, w .ends, w .short) }
@@ -112,7 +113,9 @@ no-lengths-requires : tie.Need-no-lengths-requires
 no-lengths-requires c κs = search needs
 
 array-share-prefix-measured : tie.Need-array-share-prefix-measured
-array-share-prefix-measured c = let read = c .before .before .before .before in front-there 0 mostDistances _ _ _ (read .distances .ensures) (few (read .before))
+array-share-prefix-measured c =
+    let read = c .before .before .before .before in
+    front-there 0 mostDistances _ _ _ (read .distances .ensures) (few (read .before))
 
 slice-aggregate-report : tie.Need-slice-aggregate-report
 slice-aggregate-report c = front-length 0 mostDistances _ _ _ (c .before .before .before .before .before .distances .ensures)
@@ -127,7 +130,9 @@ part-report-end : tie.Need-part-report-end
 part-report-end c = parents-end (here (c .before .before .before .before .before .before .before .before))
 
 array-share-prefix-proposed : tie.Need-array-share-prefix-proposed
-array-share-prefix-proposed c = let read = c .before .before .before in front-there (pos 0) mostNumerators _ _ _ (read .numerators .ensures) (omega (arith, few-edges (read .before)))
+array-share-prefix-proposed c =
+    let read = c .before .before .before in
+    front-there (pos 0) mostNumerators _ _ _ (read .numerators .ensures) (omega (arith, few-edges (read .before)))
 
 slice-aggregate-report-2 : tie.Need-slice-aggregate-report-2
 slice-aggregate-report-2 c = front-length (pos 0) mostNumerators _ _ _ (c .before .before .before .before .numerators .ensures)
@@ -148,16 +153,23 @@ slice-aggregate-put-front : tie.Need-slice-aggregate-put-front
 slice-aggregate-put-front c = sym (part-size (after (c .before .before)) _ _ (after-size (c .before .before)))
 
 put-front-requires : tie.Need-put-front-requires
-put-front-requires c κs = (part-few (after (c .before .before .before)) _ _ (after-size (c .before .before .before)) 125 (few-edges (c .before .before .before .before .before .before .before .before .before .before)), c .before .before .before .before .before .before .before .before .before .before .before .before .before .before .before .before .pre .1 .1)
+put-front-requires c κs =
+    let done = c .before .before .before in
+    let read = done .before .before .before .before .before in
+    (part-few (after done) _ _ (after-size done) 125 (few-edges (read .before .before)), c .before .before .before .before .before .before .before .before .before .before .before .before .before .before .before .before .pre .1 .1)
 
 array-share-prefix-proposed-2 : tie.Need-array-share-prefix-proposed-2
-array-share-prefix-proposed-2 c = let read = c .before .before .before .before .before .before .before .before .before .before in front-there (pos 0) mostNumerators _ _ _ (read .numerators .ensures) (omega (arith, few-edges (read .before)))
+array-share-prefix-proposed-2 c =
+    let read = c .before .before .before .before .before .before .before .before .before .before in
+    front-there (pos 0) mostNumerators _ _ _ (read .numerators .ensures) (omega (arith, few-edges (read .before)))
 
 slice-aggregate-put-front-2 : tie.Need-slice-aggregate-put-front-2
 slice-aggregate-put-front-2 c = front-length (pos 0) mostNumerators _ _ _ (c .before .before .before .before .before .before .before .before .before .before .before .numerators .ensures)
 
 put-front-requires-2 : tie.Need-put-front-requires-2
-put-front-requires-2 c κs = (omega (arith, numerators-size (c .before .before .before .before .before .before .before .before .before .before .before), few-edges (c .before .before .before .before .before .before .before .before .before .before .before .before .before)), c .before .before .before .before .before .before .before .before .before .before .before .before .before .before .before .before .before .before .before .pre .1 .0)
+put-front-requires-2 c κs =
+    let read = c .before .before .before .before .before .before .before .before .before .before .before in
+    (omega (arith, numerators-size read, few-edges (read .before .before)), c .before .before .before .before .before .before .before .before .before .before .before .before .before .before .before .before .before .before .before .pre .1 .0)
 
 returns : tie.Need-returns
 returns c =
@@ -177,8 +189,8 @@ fitted-spec =
     cast-n
     pair-count-requires
     distances-requires
-    add-body
     add-parents
+    add-parents-2
     add-last
     u32-at-requires
     add-u16-at

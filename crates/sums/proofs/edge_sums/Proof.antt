@@ -1,5 +1,5 @@
-use borrow.Author.Needs.{needs}
 -- One pair a turn: its remainder goes to the edges that part it, and to no other.
+use borrow.Author.Needs.{needs}
 use mathlib.Core.Path.{_≡_, ap}
 use native.Mathlib.Omega.{arith}
 use lib.IntN.{natAbs}
