@@ -1,27 +1,23 @@
 -- The way from i to j: the edges above i that are not above j, as a climb from i meets them. Laws:
--- `way-split`: a path is the two ways; `way-stop`, `way-step`: what a climb from a adds until it stands above j;
--- `passed-start`, `passed-here`, `passed-step`, `passed-stop`: which vertices a climb that marks them has marked when it
--- stands at a; `parts-ways`, `ways-apart`: the edges that part i and j are those of one way or the other, never of both.
+-- `way-split`: a path is the two ways; `way-stop`, `way-step`: what a climb from a adds until it stands above j.
 -- A climb ends: each step goes to a greater vertex (`Up`), and the root is above every vertex (`below-root`).
 use mathlib.Core.Path.{_≡_, refl, sym, _∙_, ap, subst}
-use mathlib.Core.Bool.{Bool, true, false, not, cond, _||_, _&&_, and-true, and-false, or-false}
+use mathlib.Core.Bool.{Bool, true, false, not, cond, _&&_, and-false}
 use mathlib.Core.List.{[], _∷_}
-use mathlib.Core.Logic.{_≢_}
 use Prim.Native.Nat.{ℕ, _<_}
-use native.Mathlib.Decide.{ℕ-discrete, decLt}
+use native.Mathlib.Decide.{ℕ-discrete}
 use native.Mathlib.Omega.{arith}
-use lib.Dec.{eqb, ltb}
+use lib.Dec.{eqb}
 use lib.IntN.{ℤ, pos, negsuc, _+ℤ_, _-ℤ_, _*ℤ_, zero-*ℤ}
-use borrow.Author.Tests.{lt-ltb, le-ltb}
 use Rattle.exact.proofs.Ring.{*ℤ-distribʳ}
 use Rattle.exact.proofs.Quote.{by-ring, quote, eq-by, z*}
-use Rattle.exact.proofs.Decide.{by-cases, eq-yes, eq-no}
+use Rattle.exact.proofs.Decide.{by-cases, eq-no}
 use Rattle.exact.specs.Sum.{sum, ind}
 use Rattle.exact.proofs.Sum.{sum-cong, sum-+, sum-at, sum-zero, ind-no}
 use Rattle.exact.specs.LeastSquares.{path}
 use Rattle.tree.specs.Chain.{below, parts}
-use Rattle.tree.specs.Way.{only, way, passed}
-use Rattle.tree.proofs.Chains.{Below, Up, bit, along, above, above-par, nested, below?, below-yes, below-no, below-le, below-trans}
+use Rattle.tree.specs.Way.{only, way}
+use Rattle.tree.proofs.Chains.{Below, Up, bit, along, above, below?, below-yes, below-no, below-trans}
 
 -- ---- one edge at a time
 -- the edges of one way, as 0 and 1
@@ -41,27 +37,6 @@ split-ind false true = refl
 split-ind false false = refl
 
 module _ (par : ℕ → ℕ) where
-  -- an edge of the path is on one way or the other
-  pub parts-ways : (i j v : ℕ) → parts par v i j ≡ (only par i j v || only par j i v)
-  unfolding parts
-  parts-ways i j v = at (below par i v) (below par j v)
-    where
-      at : (p q : Bool) → cond p (not q) q ≡ ((p && not q) || (q && not p))
-      at true true = refl
-      at true false = refl
-      at false true = refl
-      at false false = refl
-
-  -- and never on both
-  pub ways-apart : (i j v : ℕ) → (only par i j v && only par j i v) ≡ false
-  ways-apart i j v = at (below par i v) (below par j v)
-    where
-      at : (p q : Bool) → ((p && not q) && (q && not p)) ≡ false
-      at true true = refl
-      at true false = refl
-      at false true = refl
-      at false false = refl
-
   -- a path, added way by way
   pub way-split : (K : ℕ) (x : ℕ → ℤ) (i j : ℕ) → along par K x i j ≡ way par K x i j +ℤ way par K x j i
   way-split K x i j = unfold path way parts in
@@ -107,38 +82,3 @@ module _ (par : ℕ → ℕ) (K : ℕ) (up : Up par K) where
       sum-cong K (λ v hv. ap (λ y. y *ℤ x v) (way-at a j v hv ha n) ∙ *ℤ-distribʳ (ind (eqb v a)) (ind (only par (par a) j v)) (x v))
       ∙ sum-+ K (λ v. ind (eqb v a) *ℤ x v) (λ v. ind (only par (par a) j v) *ℤ x v)
       ∙ ap (λ y. y +ℤ sum K (λ v. ind (only par (par a) j v) *ℤ x v)) (sum-at K a x ha)
-
-  -- ---- marking
-  -- a step marks a
-  pub passed-step : (i j a v : ℕ) → v < K → a < K → Below par i a → (Below par j a → ⊥) → passed par i j (par a) v ≡ (passed par i j a v || eqb v a)
-  unfolding passed
-  passed-step i j a v hv ha b n = by-cases (ℕ-discrete v a)
-      (λ e. rw (e, below-yes par i a b, below-no par j a n, lt-ltb a (par a) (up a ha), le-ltb a a (omega arith), eq-yes {a = a} {b = a} refl))
-      (λ e. by-cases (decLt v a)
-      (λ l. rw (eq-no e, lt-ltb v a l, lt-ltb v (par a) (omega (arith, up a ha))) (sym (or-false (only par i j v && true))))
-      (λ l. rw (eq-no e, le-ltb v a (omega arith)) (between l e ∙ sym (or-false (only par i j v && false) ∙ and-false (only par i j v)))))
-    where
-      between : (v < a → ⊥) → v ≢ a → (only par i j v && ltb v (par a)) ≡ false
-      between l e = by-cases (decLt v (par a))
-          (λ m. rw (below-no par i v (λ q. omega (arith, below-le par (par a) v (above-par par K up a v (omega arith) (nested par K up i a v (omega arith) (omega arith) b q) (omega arith))))))
-          (λ m. rw (le-ltb v (par a) (omega arith)) (and-false (only par i j v)))
-
-  -- at the end the whole way is marked, and nothing else
-  pub passed-stop : (i j a v : ℕ) → v < K → Below par i a → Below par j a → passed par i j a v ≡ only par i j v
-  unfolding passed
-  passed-stop i j a v hv bi bj = by-cases (decLt v a)
-      (λ l. rw (lt-ltb v a l) (and-true (only par i j v)))
-      (λ l. rw (only-none par i j v (λ q. below-trans par K up j a v (omega arith) bj (nested par K up i a v (omega arith) (omega arith) bi q))))
-
-module _ (par : ℕ → ℕ) where
-  -- a climb from i starts with nothing marked
-  pub passed-start : (i j v : ℕ) → passed par i j i v ≡ false
-  unfolding passed
-  passed-start i j v = by-cases (decLt v i)
-      (λ l. rw (below-no par i v (λ q. omega (arith, below-le par i v q))))
-      (λ l. rw (le-ltb v i (omega arith)) (and-false (only par i j v)))
-
-  -- where the climb stands is not passed yet
-  pub passed-here : (i j a : ℕ) → passed par i j a a ≡ false
-  unfolding passed
-  passed-here i j a = rw (le-ltb a a (omega arith)) (and-false (only par i j a))

@@ -1,7 +1,6 @@
 -- The way from i to j: the edges above i that are not above j, as a climb from i meets them. A path is the two ways.
 use mathlib.Core.Bool.{Bool, not, _&&_}
 use Prim.Native.Nat.{ℕ}
-use lib.Dec.{ltb}
 use lib.IntN.{ℤ, _*ℤ_}
 use Rattle.exact.specs.Sum.{sum, ind}
 use Rattle.tree.specs.Chain.{below}
@@ -13,7 +12,3 @@ only par i j v = below par i v && not (below par j v)
 -- the sum of x over the way from i to j
 unfoldable pub way : (ℕ → ℕ) → ℕ → (ℕ → ℤ) → ℕ → ℕ → ℤ
 way par K x i j = sum K (λ v. ind (only par i j v) *ℤ x v)
-
--- the vertices of the way from i to j that a climb has passed when it stands at a
-unfoldable pub passed : (ℕ → ℕ) → ℕ → ℕ → ℕ → ℕ → Bool
-passed par i j a v = only par i j v && ltb v a

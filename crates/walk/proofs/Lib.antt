@@ -2,4 +2,5 @@ pub mod Climb
 pub mod Bounds
 pub mod Adding
 pub mod Counting
-pub mod Marking
+pub mod Meeting
+pub mod Rising

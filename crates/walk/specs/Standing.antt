@@ -1,11 +1,9 @@
--- What a walk needs of the tables that it is lent, and what it leaves in the one that it marks.
+-- What a walk needs of the tables that it is lent.
 use mathlib.Core.Path.{_≡_}
-use mathlib.Core.Bool.{Bool}
 use mathlib.Core.List.{List}
 use Prim.Native.Nat.{ℕ, _≤_, _<_}
-use lib.IntN.{ℤ, pos, natAbs, _+ℤ_, _*ℤ_}
-use lib.ListN.{length, getD}
-use Rattle.exact.specs.Sum.{ind}
+use lib.IntN.{ℤ, pos, natAbs}
+use lib.ListN.{getD}
 use Rattle.tree.specs.Chain.{parentOf}
 use Rattle.tree.specs.Allowed.{Allowed}
 use Rattle.tree.specs.Cluster.{cluster}
@@ -22,9 +20,3 @@ entryOf x v = getD x v (pos 0)
 -- no entry is farther from 0 than a thousand times the largest numerator
 pub record Small (K : ℕ) (x : List ℤ) : Type 0 where
   pub near : (v : ℕ) → v < K → natAbs (entryOf x v) ≤ 100000000000000
-
--- r is added to the entry of each edge that b picks, and every other entry stays
-pub record Marked (K : ℕ) (b : ℕ → Bool) (r : ℤ) (old new : List ℤ) : Type 0 where
-  pub size : length new ≡ 125
-  pub entries : (v : ℕ) → v < K → entryOf new v ≡ entryOf old v +ℤ ind (b v) *ℤ r
-  pub rest : (v : ℕ) → K ≤ v → entryOf new v ≡ entryOf old v

@@ -1,0 +1,31 @@
+-- Shares of the vertices: numbers that are put at single vertices and then handed up, so that each edge gets those put below it.
+use mathlib.Core.Path.{_≡_}
+use mathlib.Core.List.{List}
+use Prim.Native.Nat.{ℕ, zero, suc, _+_, _*_, _≤_}
+use lib.Dec.{eqb}
+use lib.IntN.{ℤ, pos, natAbs, _+ℤ_, _-ℤ_, _*ℤ_}
+use lib.ListN.{length}
+use Rattle.exact.specs.Sum.{sum, ind}
+use Rattle.tree.specs.Chain.{below}
+use Rattle.walk.specs.Standing.{entryOf}
+
+-- x is added to the entry of vertex k, and every other entry stays
+pub record Put (k : ℕ) (x : ℤ) (old new : List ℤ) : Type 0 where
+  pub size : length new ≡ 126
+  pub entries : (w : ℕ) → entryOf new w ≡ entryOf old w +ℤ ind (eqb w k) *ℤ x
+
+-- what the shares below v come to, v's own among them
+unfoldable pub under : (ℕ → ℕ) → List ℤ → ℕ → ℤ
+under par own v = sum 126 (λ u. ind (below par u v) *ℤ entryOf own u)
+
+-- the magnitudes of the first n shares together
+unfoldable pub mass : ℕ → List ℤ → ℕ
+mass zero own = 0
+mass (suc n) own = mass n own + natAbs (entryOf own n)
+
+-- the shares of one pair: r at i, r at j, and r taken off twice at m
+pub record Given (i j m : ℕ) (r : ℤ) (old new : List ℤ) : Type 0 where
+  pub size : length new ≡ 126
+  pub more : mass 126 new ≤ mass 126 old + 4 * natAbs r
+  pub entries : (par : ℕ → ℕ) (v : ℕ)
+      → under par new v ≡ under par old v +ℤ (ind (below par i v) +ℤ ind (below par j v) -ℤ pos 2 *ℤ ind (below par m v)) *ℤ r
