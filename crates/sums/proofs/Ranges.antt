@@ -1,6 +1,5 @@
 -- How large the quantities of a proposal can become, for any incidence of at most 125 edges and at most 64 strains.
 -- `path-range`, `scaled-range`, `remainder-range`, `product-range`: of one pair, for the edges' sums and F.
--- `edge-range`, `edge-next`: of an edge's running sum of remainders, and with one more remainder added.
 -- `rounded-range`, `rounded-path-range`, `rounded-remainder-range`: of m, for R.
 -- `hops-low`, `hops-high`, `hops-sweep`: of the number of edges of a path, and of the running sum of squares that ends as H.
 -- `mul-abs`, `path-abs`: of a product, and of a path over any table.
@@ -9,7 +8,7 @@ use mathlib.Core.Path.{_≡_}
 use mathlib.Core.Bool.{Bool, true, false}
 use mathlib.Core.List.{List}
 use mathlib.Core.Logic.{_⊎_, inl, inr}
-use Prim.Native.Nat.{ℕ, _*_, _^_, _≤_, _<_}
+use Prim.Native.Nat.{ℕ, _*_, _≤_, _<_}
 use native.Mathlib.Nat.{mul-le-mul, mul-le-mul-right}
 use native.Mathlib.Omega.{arith}
 use lib.IntN.{ℤ, pos, _+ℤ_, _*ℤ_, natAbs}
@@ -19,7 +18,7 @@ use Rattle.exact.specs.Sum.{ind, sweep}
 use Rattle.exact.specs.LeastSquares.{sq, path, hops, remainder}
 use Rattle.exact.specs.Nearest.{nearest}
 use Rattle.exact.proofs.Sum.{sum-nn, ind-nn}
-use Rattle.exact.proofs.Sign.{natAbs-add, natAbs-sub, natAbs-mul, abs→within, lt-or-ge}
+use Rattle.exact.proofs.Sign.{natAbs-sub, natAbs-mul, abs→within, lt-or-ge}
 use Rattle.exact.proofs.Rounding.{nearest-bound}
 use Rattle.exact.proofs.Sweep.{sum-abs, sweep-within}
 use Rattle.matrix.specs.Place.{place, distance}
@@ -89,21 +88,6 @@ module _ {K : ℕ} {d : ℕ × ℕ → ℤ} {D : ℕ} {n : ℕ → ℤ} (w : Bou
   -- a term of F
   pub product-range : (p : ℕ × ℕ) → natAbs (d p *ℤ remainder K parts d (pos D) n p) ≤ 627500000000000000
   product-range p = mul-abs (d p) (remainder K parts d (pos D) n p) 50000 12550000000000 (w .distances p) (remainder-range p)
-
-  -- 2016 * 12550000000000
-  pub edge-range : (N : ℕ) → N ≤ 64 → (v j i : ℕ) → j ≤ N → i ≤ j → (j < N) ⊎ (i ≡ 0)
-      → natAbs (sweep (λ p. ind (parts v p) *ℤ remainder K parts d (pos D) n p) j i) ≤ 25300800000000000
-  edge-range N few v j i l k place = sweep-within N 12550000000000 (λ p. ind (parts v p) *ℤ remainder K parts d (pos D) n p) few
-      (λ p _ _. omega (arith, ind-abs (parts v p) (remainder K parts d (pos D) n p), remainder-range p)) j i l k place
-
-  pub edge-next : (N : ℕ) → N ≤ 64 → (v j i : ℕ) → j ≤ N → i ≤ j → (j < N) ⊎ (i ≡ 0) → (p : ℕ × ℕ)
-      → natAbs (sweep (λ q. ind (parts v q) *ℤ remainder K parts d (pos D) n q) j i +ℤ remainder K parts d (pos D) n p) < 2 ^ 63
-  edge-next N few v j i l k place p = omega (
-    arith,
-    natAbs-add (sweep (λ q. ind (parts v q) *ℤ remainder K parts d (pos D) n q) j i) (remainder K parts d (pos D) n p),
-    edge-range N few v j i l k place,
-    remainder-range p,
-  )
 
   -- ---- the lengths in thousandths
   pub rounded-range : (v : ℕ) → v < K → natAbs (nearest D (n v)) ≤ 100000000000000
