@@ -116,15 +116,18 @@ static uint32_t read_held(const struct sheet *s, uint16_t d[], uint8_t parent[],
     return 0;
 }
 
+/* 1 to 13 for the whole sheet. */
+static uint32_t read_all(const uint8_t *bytes, size_t length, struct sheet *s, uint16_t d[], uint8_t parent[], int64_t n[]) {
+    uint32_t number = read_form(bytes, length, s);
+    return number != 0 ? number : read_held(s, d, parent, n);
+}
+
 uint32_t plain_triple(const uint8_t *bytes, size_t length) {
     struct sheet s;
     uint16_t d[MAX_N * MAX_N];
     uint8_t parent[MAX_V];
     int64_t n[MAX_V];
-    uint32_t number = read_form(bytes, length, &s);
-    if (number == 0) {
-        number = read_held(&s, d, parent, n);
-    }
+    uint32_t number = read_all(bytes, length, &s, d, parent, n);
     if (number != 0) {
         return number;
     }
@@ -173,10 +176,7 @@ uint32_t plain_pass(const uint8_t *bytes, size_t length) {
     uint16_t d[MAX_N * MAX_N];
     uint8_t parent[MAX_V];
     int64_t n[MAX_V];
-    uint32_t number = read_form(bytes, length, &s);
-    if (number == 0) {
-        number = read_held(&s, d, parent, n);
-    }
+    uint32_t number = read_all(bytes, length, &s, d, parent, n);
     if (number != 0) {
         return number;
     }
