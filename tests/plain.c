@@ -116,21 +116,7 @@ static uint32_t read_held(const struct sheet *s, uint16_t d[], uint8_t parent[],
     return 0;
 }
 
-/* 1 to 13 for the whole sheet. */
-static uint32_t read_all(const uint8_t *bytes, size_t length, struct sheet *s, uint16_t d[], uint8_t parent[], int64_t n[]) {
-    uint32_t number = read_form(bytes, length, s);
-    return number != 0 ? number : read_held(s, d, parent, n);
-}
-
-uint32_t plain_triple(const uint8_t *bytes, size_t length) {
-    struct sheet s;
-    uint16_t d[MAX_N * MAX_N];
-    uint8_t parent[MAX_V];
-    int64_t n[MAX_V];
-    uint32_t number = read_all(bytes, length, &s, d, parent, n);
-    if (number != 0) {
-        return number;
-    }
+static uint32_t triple(struct sheet s, const uint16_t d[], const uint8_t parent[], const int64_t n[]) {
     static uint8_t below[MAX_V][MAX_N];
     memset(below, 0, sizeof below);
     for (uint32_t i = 0; i < s.n; i++) {
@@ -171,15 +157,7 @@ uint32_t plain_triple(const uint8_t *bytes, size_t length) {
     return 0;
 }
 
-uint32_t plain_pass(const uint8_t *bytes, size_t length) {
-    struct sheet s;
-    uint16_t d[MAX_N * MAX_N];
-    uint8_t parent[MAX_V];
-    int64_t n[MAX_V];
-    uint32_t number = read_all(bytes, length, &s, d, parent, n);
-    if (number != 0) {
-        return number;
-    }
+static uint32_t pass(struct sheet s, const uint16_t d[], const uint8_t parent[], const int64_t n[]) {
     /* the strains below each vertex so far, as a list; each strain's way up to the vertex that it is listed at */
     uint8_t list[MAX_V][MAX_N], count[MAX_V] = {0};
     int64_t way[MAX_N] = {0}, sum[MAX_V] = {0}, across[MAX_V] = {0};
@@ -212,4 +190,26 @@ uint32_t plain_pass(const uint8_t *bytes, size_t length) {
         sum[parent[v]] += own;
     }
     return 0;
+}
+
+/* 1 to 13, then the equations. */
+static uint32_t verdict(const uint8_t *bytes, size_t length,
+                        uint32_t (*equations)(struct sheet, const uint16_t[], const uint8_t[], const int64_t[])) {
+    struct sheet s;
+    uint16_t d[MAX_N * MAX_N];
+    uint8_t parent[MAX_V];
+    int64_t n[MAX_V];
+    uint32_t number = read_form(bytes, length, &s);
+    if (number == 0) {
+        number = read_held(&s, d, parent, n);
+    }
+    return number != 0 ? number : equations(s, d, parent, n);
+}
+
+uint32_t plain_triple(const uint8_t *bytes, size_t length) {
+    return verdict(bytes, length, triple);
+}
+
+uint32_t plain_pass(const uint8_t *bytes, size_t length) {
+    return verdict(bytes, length, pass);
 }

@@ -22,7 +22,7 @@ pub record Stands (N : ℕ) (ds ps : List ℕ) (D : ℕ) (ns : List ℤ) : Type 
   pub lengths : lengths.Proper (length ps) D ns
   pub equations : Equations (pairs N) (length ps) (partsOf ps) (distance N ds) (pos D) (entryOf ns)
 
--- Demand 3: the fit is a minimum, and its rounding to thousandths is within H/4,000,000 of it. F and R fit 63 bits.
+-- Demand 3: the fit is a minimum, and its rounding to thousandths is within H/4,000,000 of it. F is between 0 and 5,040,000,000,000,000,000.
 pub record Least (N : ℕ) (ds ps : List ℕ) (D : ℕ) (ns : List ℤ) : Type 0 where
   pub minimum : Minimum (pairs N) (length ps) (partsOf ps) (distance N ds) (pos D) (entryOf ns) Any
   pub rounding : Rounding (pairs N) (length ps) (partsOf ps) (distance N ds) (pos D) (entryOf ns) (roundedOf D ns) Any

@@ -1,4 +1,4 @@
--- The print of a sheet, as a function of its bytes: document 01's nine kinds of line, or `refused` and the number.
+-- The print of a sheet, as a function of its bytes: document 01's five kinds of line, or `refused` and the number.
 use mathlib.Core.Bool.{cond}
 use mathlib.Core.List.{List}
 use mathlib.Core.Path.{_≡_}

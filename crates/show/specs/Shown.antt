@@ -9,7 +9,7 @@ use Rattle.walk.specs.Standing.{entryOf}
 use Rattle.print.specs.Lines.{refusedLine, fitText}
 use Rattle.fitting.specs.declared.FitReport.{FitReport}
 
--- by the verdict: the nine kinds of line, or `refused` and the number
+-- by the verdict: the five kinds of line, or `refused` and the number
 abbrev pub textOf : Verdict → List ℕ → List ℕ
 textOf Accepted fit = fit
 textOf (Refused r) fit = refusedLine (refusalOf r)
