@@ -4,6 +4,7 @@ pub mod Union
 pub mod Counts
 pub mod Ways
 pub mod Depth
+pub mod Directions
 pub mod Checked
 pub mod Faults
 pub mod Handing

@@ -1,4 +1,5 @@
 -- Which strains are below which vertices of an allowed tree. Laws:
+-- picking from a count: `find`, and leaving one out: `but-is`, `but-past`, `but-count`;
 -- `kids≥2`, `child`, `another`, `third`: an inner vertex has two children or more, so one, so one besides any given, and the
 -- root one besides any two;
 -- `siblings`: two children of one vertex have nothing below both; `leaf`: every vertex has a strain below it;
@@ -18,7 +19,7 @@ use Rattle.tree.proofs.Chains.{Below, Up, below-le, below-self, below-u
 
 -- ---- picking from a count
 -- a count of 1 or more has one to show
-find : (n : ℕ) (p : ℕ → Bool) → 1 ≤ count n p → (u : ℕ) × (u < n) × (p u ≡ true)
+pub find : (n : ℕ) (p : ℕ → Bool) → 1 ≤ count n p → (u : ℕ) × (u < n) × (p u ≡ true)
 unfolding count
 find zero p h = absurd (omega arith)
 find (suc n) p h = go (p n) refl h (find n p)
@@ -28,22 +29,22 @@ find (suc n) p h = go (p n) refl h (find n p)
     go false e h ih = let (u, l, t) = ih (omega arith) in (u, omega arith, t)
 
 -- p, and not c
-abbrev but : (ℕ → Bool) → ℕ → ℕ → Bool
+abbrev pub but : (ℕ → Bool) → ℕ → ℕ → Bool
 but p c u = cond (eqb u c) false (p u)
 
 -- what that test says
-but-is : (p : ℕ → Bool) (c u : ℕ) → but p c u ≡ true → (u ≢ c) × (p u ≡ true)
+pub but-is : (p : ℕ → Bool) (c u : ℕ) → but p c u ≡ true → (u ≢ c) × (p u ≡ true)
 but-is p c u e = by-cases (ℕ-discrete u c)
     (λ f. absurd (false≢true (rw (eq-yes f) at e)))
     (λ f. (f, rw (eq-no f) at e))
 
 -- leaving c out takes nothing off a count that c is past, and at most one off any
-but-past : (n : ℕ) (p : ℕ → Bool) (c : ℕ) → n ≤ c → count n p ≡ count n (but p c)
+pub but-past : (n : ℕ) (p : ℕ → Bool) (c : ℕ) → n ≤ c → count n p ≡ count n (but p c)
 unfolding count
 but-past zero p c h = refl
 but-past (suc n) p c h = rw (eq-no {a = n} {b = c} (omega arith), but-past n p c (omega arith))
 
-but-count : (n : ℕ) (p : ℕ → Bool) (c : ℕ) → count n p ≤ suc (count n (but p c))
+pub but-count : (n : ℕ) (p : ℕ → Bool) (c : ℕ) → count n p ≤ suc (count n (but p c))
 unfolding count
 but-count zero p c = omega arith
 but-count (suc n) p c = let ih = but-count n p c in by-cases (ℕ-discrete n c)
@@ -72,7 +73,7 @@ module _ (N K : ℕ) (par : ℕ → ℕ) (ok : Allowed N K par) where
       (λ e. ok .two w h (omega arith))
 
   -- what the test of a child says
-  is-kid : (w u : ℕ) → kid par w u ≡ true → par u ≡ w
+  pub is-kid : (w u : ℕ) → kid par w u ≡ true → par u ≡ w
   is-kid w u e = eqb→eq (par u) w (subst T (sym e) tt)
 
   -- a child to go down to
