@@ -1,5 +1,5 @@
 -- Demand 3 over any incidence: `minimum` and `rounding` for the equations, `minimum⁰` and `rounding⁰` for tables without
--- negative lengths. All four come from one expansion. With r the remainders, the cross sum of a table x is Σ r·path(x), and
+-- negative lengths. All four come from one expansion, and so does `on-top`, by how much a fit's sum of squares is the least. With r the remainders, the cross sum of a table x is Σ r·path(x), and
 --   D²·X = Q²·Σr² + 2·Q·cross(Q·n - D·x) + Σ path(Q·n - D·x)²,
 -- since D·(Q·d - path(x)) = Q·r + path(Q·n - D·x). Exchanging the two sums, cross(x) = Σ x_v·(edge v's sum of remainders), so
 -- the equations make it 0, and K7's conditions make it 0 at n and m and never positive elsewhere.
@@ -198,6 +198,18 @@ module _ {I : Type 0} {S : (I → ℤ) → ℤ} (L : Sums S) (K : ℕ) (parts : 
 
   slack : (Q : ℤ) (x : ℕ → ℤ) → pos 0 ≤ᶻ negℤ (Q *ℤ D *ℤ cross S K parts d D n x)
   slack Q x = ≤-of-≡ (sym (ap (λ y. negℤ (Q *ℤ D *ℤ y)) (none x) ∙ by-ring (Q ∷ D ∷ []) (search quote depth 20) tt))
+
+  -- what another table's sum of squares has on top of the fit's: the squares of the paths of Q·n - D·x
+  pub on-top : (Q : ℤ) (x : ℕ → ℤ) → D *ℤ D *ℤ sumX S K parts d Q x
+      ≡ Q *ℤ Q *ℤ D *ℤ sumF S K parts d D n +ℤ S (λ p. sq (path K parts (λ v. Q *ℤ n v -ℤ D *ℤ x v) p))
+  unfolding apart
+  on-top Q x = expansion L K parts d D n Q x
+      ∙ ap₂ (λ a c. Q *ℤ Q *ℤ a +ℤ pos 2 *ℤ Q *ℤ c +ℤ W) (sym (squares-by L K parts d D n (none n)))
+      (ap₂ (λ c e. Q *ℤ c -ℤ D *ℤ e) (none n) (none x))
+      ∙ by-ring (Q ∷ D ∷ sumF S K parts d D n ∷ W ∷ []) (search quote depth 20) tt
+    where
+      W : ℤ
+      W = apart S K parts D n Q x
 
   pub minimum : Minimum S K parts d D n Any
   minimum = record {

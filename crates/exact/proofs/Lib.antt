@@ -10,5 +10,6 @@ pub mod Range
 pub mod Sweep
 pub mod Sign
 pub mod LeastSquares
+pub mod OneFit
 pub mod Rounding
 pub mod Modular

@@ -7,6 +7,7 @@ use mathlib.Core.List.{[], _∷_}
 use mathlib.Core.Logic.{_⊎_, inl, inr}
 use Prim.Native.Nat.{ℕ, zero, suc, _+_, _*_, _≤_, _<_, suc-le-suc}
 use native.Mathlib.Nat.{le-antisymm as le-antisym}
+use native.Mathlib.Omega.{arith}
 use lib.Dec.{ltb→lt, leb·zero, leb·suc-zero, leb·suc-suc, leb→le, le→leb}
 use lib.IntN.{ℤ, pos, negsuc, negℤ, sucℤ, predℤ, suc-pred, _+ℤ_, _-ℤ_, _*ℤ_, +ℤ-idl, +ℤ-idr, +ℤ-one, +ℤ-comm, sucℤ-+ℤ, predℤ-+ℤ}
 use lib.Signed.{mag, leZ, ltZ, _≤ℤ_, ≤ℤ-refl, ltZ-no, clashℤ}
@@ -126,6 +127,12 @@ pub *-cancel : {c a b : ℤ} → pos 0 <ᶻ c → c *ℤ a ≤ᶻ c *ℤ b → a
 
 pub sq-pos : {a : ℤ} → pos 0 <ᶻ a → pos 0 <ᶻ a *ℤ a
 sq-pos {a} h = is-< (le-by (nn+ (nn-sq (a -ℤ pos 1)) (nn* (nn-pos 2) (nn-sub (<-is h)))) (by-ring (a ∷ []) (search quote depth 20) tt))
+
+-- only 0 has a square that is not positive
+pub sq-zero : (a : ℤ) → a *ℤ a ≤ᶻ pos 0 → a ≡ pos 0
+sq-zero (pos zero) h = refl
+sq-zero (pos (suc n)) h = absurd (omega (arith, ≤-pos {m = suc n * suc n} {n = 0} h))
+sq-zero (negsuc n) h = absurd (omega (arith, ≤-pos {m = suc n * suc n} {n = 0} h))
 
 pub sq-bound : {a b : ℤ} → negℤ b ≤ᶻ a → a ≤ᶻ b → a *ℤ a ≤ᶻ b *ℤ b
 sq-bound {a} {b} h k = le-by (nn* (nn-sub k) (nn-sub h)) (by-ring (a ∷ b ∷ []) (search quote depth 20) tt)

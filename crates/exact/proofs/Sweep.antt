@@ -2,18 +2,19 @@
 -- `sweep-start`, `sweep-step`, `sweep-column`, `sweep-end`: the running sum at each turn, and that it ends as `pairs`.
 -- `sum-abs`, `sweep-within`: its magnitude where no term's is above b, for as many as 2,016 pairs.
 -- `sweep-nn`, `sweep-le`, `term-le`: where no term is negative, it stays between 0 and the whole sum, and so does one term.
+-- `squares-none`: squares that add up to 0 are each 0.
 use mathlib.Core.Path.{_≡_, refl, sym, subst}
 use mathlib.Core.Logic.{_⊎_, inl, inr}
 use Prim.Native.Nat.{ℕ, zero, suc, _+_, _*_, _≤_, _<_}
 use native.Mathlib.Nat.{mul-le-mul-right}
 use native.Mathlib.Omega.{arith}
 use native.Mathlib.Decide.{ℕ-discrete}
-use lib.IntN.{ℤ, pos, _+ℤ_, natAbs, +ℤ-idl, +ℤ-idr, +ℤ-assoc}
+use lib.IntN.{ℤ, pos, _+ℤ_, _*ℤ_, natAbs, +ℤ-idl, +ℤ-idr, +ℤ-assoc}
 use lib.Signed.{≤ℤ-refl}
 use Rattle.exact.specs.Order.{_≤ᶻ_}
 use Rattle.exact.specs.Sum.{sum, pairs, sweep}
 use Rattle.exact.proofs.Decide.{by-cases}
-use Rattle.exact.proofs.Order.{nn+, +-mono, ≤-trans, add-mono}
+use Rattle.exact.proofs.Order.{nn+, nn-sq, +-mono, ≤-trans, add-mono, sq-zero}
 use Rattle.exact.proofs.Sum.{sum-suc, sum-nn}
 use Rattle.exact.proofs.Sign.{natAbs-add}
 
@@ -121,3 +122,7 @@ module _ (N : ℕ) (f : ℕ × ℕ → ℤ) (nn : (p : ℕ × ℕ) → p .0 < p 
   pub term-le : (i j : ℕ) → i < j → j < N → f (i, j) ≤ᶻ pairs N f
   unfolding pairs
   term-le i j k l = ≤-trans (sum-term j i (λ a. f (a, j)) k (λ a q. nn (a, j) q l)) (sum-term N j (λ b. sum b (λ a. f (a, b))) l column-nn)
+
+-- squares over the pairs that add up to 0 are each 0
+pub squares-none : (N : ℕ) (f : ℕ × ℕ → ℤ) → pairs N (λ p. f p *ℤ f p) ≡ pos 0 → (i j : ℕ) → i < j → j < N → f (i, j) ≡ pos 0
+squares-none N f e i j k l = sq-zero (f (i, j)) (subst (λ y. f (i, j) *ℤ f (i, j) ≤ᶻ y) e (term-le N (λ p. f p *ℤ f p) (λ p _ _. nn-sq (f p)) i j k l))
