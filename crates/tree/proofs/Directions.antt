@@ -5,16 +5,15 @@
 -- `spread`: beside what is below c, a strain below another child of c's parent and a strain below neither.
 use mathlib.Core.Path.{_≡_, refl, sym, _∙_, ap, ap₂, subst}
 use mathlib.Core.List.{[], _∷_}
-use mathlib.Core.Logic.{_≢_, _⊎_, inl, inr}
+use mathlib.Core.Logic.{_⊎_, inl, inr}
 use Prim.Native.Nat.{ℕ, _≤_, _<_}
 use native.Mathlib.Decide.{ℕ-discrete}
 use native.Mathlib.Omega.{arith}
-use lib.Dec.{eqb}
 use lib.IntN.{ℤ, pos, negsuc, _+ℤ_, _-ℤ_, _*ℤ_, +ℤ-idl, +ℤ-idr, zero-*ℤ}
 use Rattle.exact.proofs.Ring.{*ℤ-distribʳ}
 use Rattle.exact.proofs.Quote.{by-ring, quote, eq-by, z-sub, z+, z*}
 use Rattle.exact.proofs.Decide.{by-cases, eq-no}
-use Rattle.exact.specs.Sum.{sum, ind}
+use Rattle.exact.specs.Sum.{ind}
 use Rattle.exact.proofs.Sum.{sum-cong, sum-+, ind-sq, ind-no}
 use Rattle.exact.specs.LeastSquares.{path}
 use Rattle.tree.specs.Chain.{below, parts}

@@ -5,6 +5,7 @@ pub mod Counts
 pub mod Ways
 pub mod Depth
 pub mod Directions
+pub mod Kernel
 pub mod Checked
 pub mod Faults
 pub mod Handing

@@ -4,3 +4,4 @@ pub mod Tests
 pub mod Cluster
 pub mod Kept
 pub mod Way
+pub mod Kernel
