@@ -2,6 +2,7 @@ pub mod Bench
 pub mod Zeros
 pub mod Exactly
 pub mod Demand3
+pub mod OneFit
 pub mod Transfer
 pub mod Cases
 pub mod Chained
