@@ -1,4 +1,4 @@
--- The shares of one pair: each of the three numbers fits, and so does each entry that it is added to.
+-- What is given to two vertices: each of the two numbers fits, and so does each entry that it is added to.
 use mathlib.Core.Path.{_≡_, ap, ap₂, _∙_}
 use mathlib.Core.List.{List, [], _∷_}
 use Prim.Native.Nat.{ℕ, _+_, _*_, _≤_, _<_, _^_}
@@ -17,33 +17,23 @@ use Rattle.sums.proofs.Putting.{put-under, mass-put, put-room}
 twice-abs : (r : ℤ) → natAbs (pos 0 -ℤ r -ℤ r) ≤ 2 * natAbs r
 twice-abs r = omega (arith, natAbs-sub (pos 0 -ℤ r) r, natAbs-sub (pos 0) r)
 
-given : (i j m : ℕ) (r x y z : ℤ) (old one two new : List ℤ) → i < 126 → j < 126 → m < 126 → x ≡ r → y ≡ r → z ≡ pos 0 -ℤ r -ℤ r
-    → Put i x old one → Put j y one two → Put m z two new → Given i j m r old new
-given i j m r x y z old one two new hi hj hm ex ey ez p q s = record {
+given : (j m : ℕ) (r y z : ℤ) (old one new : List ℤ) → j < 126 → m < 126 → y ≡ r → z ≡ pos 0 -ℤ r -ℤ r
+    → Put j y old one → Put m z one new → Given j m r old new
+given j m r y z old one new hj hm ey ez q s = record {
   size = s .size;
-  more = omega (
-    arith,
-    mass-put i x old one p 126,
-    mass-put j y one two q 126,
-    mass-put m z two new s 126,
-    ap natAbs ex,
-    ap natAbs ey,
-    ap natAbs ez,
-    twice-abs r,
-  );
-  entries = λ par v. put-under par m z two new hm s v
-      ∙ ap (λ t. t +ℤ bit par v m *ℤ z) (put-under par j y one two hj q v ∙ ap (λ t. t +ℤ bit par v j *ℤ y) (put-under par i x old one hi p v))
-      ∙ ap (λ t. under par old v +ℤ bit par v i *ℤ x +ℤ bit par v j *ℤ y +ℤ bit par v m *ℤ t) ez
-      ∙ ap₂ (λ s t. under par old v +ℤ bit par v i *ℤ s +ℤ bit par v j *ℤ t +ℤ bit par v m *ℤ (pos 0 -ℤ r -ℤ r)) ex ey
-      ∙ by-ring (under par old v ∷ bit par v i ∷ bit par v j ∷ bit par v m ∷ r ∷ []) (search quote depth 20) tt;
+  more = omega (arith, mass-put j y old one q 126, mass-put m z one new s 126, ap natAbs ey, ap natAbs ez, twice-abs r);
+  entries = λ par v. put-under par m z one new hm s v
+      ∙ ap (λ t. t +ℤ bit par v m *ℤ z) (put-under par j y old one hj q v)
+      ∙ ap₂ (λ s t. under par old v +ℤ bit par v j *ℤ s +ℤ bit par v m *ℤ t) ey ez
+      ∙ by-ring (under par old v ∷ bit par v j ∷ bit par v m ∷ r ∷ []) (search quote depth 20) tt;
 }
 
 -- room for x at vertex k
 abbrev Room : List ℤ → ℕ → ℤ → Type 0
 Room own k x = (natAbs (entryOf own k +ℤ x) < 2 ^ 63) × (natAbs (entryOf own k) < 2 ^ 63)
 
-module _ (i j m : ℕ) (r : ℤ) (fits : SFits w64 r) (old : List ℤ) (hi : i < 126) (hj : j < 126) (hm : m < 126)
-    (room : mass 126 old + 4 * natAbs r < 2 ^ 63) where
+module _ (j m : ℕ) (r : ℤ) (fits : SFits w64 r) (old : List ℤ) (hj : j < 126) (hm : m < 126)
+    (room : mass 126 old + 3 * natAbs r < 2 ^ 63) where
   -- r as it is passed
   abbrev passed : ℤ
   passed = toZ w64 (ofZ w64 r)
@@ -51,8 +41,8 @@ module _ (i j m : ℕ) (r : ℤ) (fits : SFits w64 r) (old : List ℤ) (hi : i <
   passed-is : passed ≡ r
   passed-is = toZ-ofZ fits
 
-  pub first-room : Room old i passed
-  first-room = put-room 126 old i passed hi (omega (arith, room, ap natAbs passed-is))
+  pub first-room : Room old j passed
+  first-room = put-room 126 old j passed hj (omega (arith, room, ap natAbs passed-is))
 
   -- 0 - r, then less r again
   abbrev minus : ℤ
@@ -82,14 +72,10 @@ module _ (i j m : ℕ) (r : ℤ) (fits : SFits w64 r) (old : List ℤ) (hi : i <
   off-is : off ≡ twice
   off-is = back twice (omega (arith, twice-near, room))
 
-  module _ (one : List ℤ) (p : Put i passed old one) where
-    pub second-room : Room one j passed
-    second-room = put-room 126 one j passed hj (omega (arith, room, ap natAbs passed-is, mass-put i passed old one p 126))
+  module _ (one : List ℤ) (q : Put j passed old one) where
+    pub second-room : Room one m off
+    second-room = put-room 126 one m off hm
+        (omega (arith, room, ap natAbs passed-is, ap natAbs off-is, twice-near, mass-put j passed old one q 126))
 
-    module _ (two : List ℤ) (q : Put j passed one two) where
-      pub third-room : Room two m off
-      third-room = put-room 126 two m off hm
-          (omega (arith, room, ap natAbs passed-is, ap natAbs off-is, twice-near, mass-put i passed old one p 126, mass-put j passed one two q 126))
-
-      pub all-given : (new : List ℤ) → Put m off two new → Given i j m r old new
-      all-given new s = given i j m r passed passed off old one two new hi hj hm passed-is passed-is (off-is ∙ twice-is) p q s
+    pub all-given : (new : List ℤ) → Put m off one new → Given j m r old new
+    all-given new s = given j m r passed off old one new hj hm passed-is (off-is ∙ twice-is) q s

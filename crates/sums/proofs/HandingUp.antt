@@ -20,8 +20,7 @@ use Rattle.exact.proofs.Sum.{sum-cong, sum-+, sum-*, sum-at, ind-yes}
 use Rattle.tree.specs.Chain.{below, lift, kid}
 use Rattle.tree.proofs.Chains.{bit, one-more}
 use Rattle.walk.specs.Standing.{entryOf}
-use Rattle.walk.specs.Rising.{Rooted}
-use Rattle.sums.specs.Shares.{Put, under, mass}
+use Rattle.sums.specs.Shares.{Rooted, Put, under, mass}
 use Rattle.sums.proofs.Putting.{mass-sum}
 
 -- the shares that vertex w has when the vertices below m have handed theirs up

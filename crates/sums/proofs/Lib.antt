@@ -3,4 +3,11 @@ pub mod Remaining
 pub mod Putting
 pub mod Giving
 pub mod HandingUp
+pub mod Digits
+pub mod Masked
+pub mod Gaps
+pub mod Carries
+pub mod Rows
+pub mod Meetings
+pub mod Turning
 pub mod Gathering

@@ -21,14 +21,16 @@ use Rattle.tree.specs.Chain.{below}
 use Rattle.walk.specs.Standing.{entryOf}
 use Rattle.sums.specs.Shares.{Put, under, mass}
 
+-- x added to one entry
+pub set-add : (k : ℕ) (x y : ℤ) (old : List ℤ) → k < length old → y ≡ entryOf old k +ℤ x
+    → (w : ℕ) → entryOf (set old k y) w ≡ entryOf old w +ℤ ind (eqb w k) *ℤ x
+set-add k x y old h q w = by-cases (ℕ-discrete w k)
+    (λ r. rw r (getD-set-same old k y (pos 0) h ∙ q ∙ ap (λ z. entryOf old k +ℤ z) (sym (ap (λ z. z *ℤ x) (ind-yes (eq-yes {a = k} {b = k} refl)) ∙ *ℤ-oneˡ x))))
+    (λ r. getD-set-other old k w y (pos 0) r ∙ sym (ap (λ z. entryOf old w +ℤ z) (ap (λ z. z *ℤ x) (ind-no (eq-no r)) ∙ zero-*ℤ x) ∙ +ℤ-idr (entryOf old w)))
+
 -- what is put where it belongs
 pub put-set : (k : ℕ) (x y : ℤ) (old : List ℤ) → k < 126 → length old ≡ 126 → y ≡ entryOf old k +ℤ x → Put k x old (set old k y)
-put-set k x y old h e q = record {
-  size = simp length-set e;
-  entries = λ w. by-cases (ℕ-discrete w k)
-      (λ r. rw r (getD-set-same old k y (pos 0) (omega arith) ∙ q ∙ ap (λ z. entryOf old k +ℤ z) (sym (ap (λ z. z *ℤ x) (ind-yes (eq-yes {a = k} {b = k} refl)) ∙ *ℤ-oneˡ x))))
-      (λ r. getD-set-other old k w y (pos 0) r ∙ sym (ap (λ z. entryOf old w +ℤ z) (ap (λ z. z *ℤ x) (ind-no (eq-no r)) ∙ zero-*ℤ x) ∙ +ℤ-idr (entryOf old w)));
-}
+put-set k x y old h e q = record { size = simp length-set e; entries = set-add k x y old (omega arith) q }
 
 -- a weighted sum of the shares, with one more
 pub put-sum : (k : ℕ) (x : ℤ) (old new : List ℤ) → k < 126 → Put k x old new → (b : ℕ → Bool)
@@ -48,7 +50,7 @@ unfolding under
 under-none par own e v = sum-cong 126 (λ u _. ap (λ (l : List ℤ). ind (below par u v) *ℤ entryOf l u) e ∙ ap (λ y. ind (below par u v) *ℤ y) (getD-table-const 126 (pos 0) u) ∙ *ℤ-zero (ind (below par u v))) ∙ sum-zero 126
 
 -- ---- magnitudes
-chosen-abs : (b : Bool) (x : ℤ) → natAbs (ind b *ℤ x) ≤ natAbs x
+pub chosen-abs : (b : Bool) (x : ℤ) → natAbs (ind b *ℤ x) ≤ natAbs x
 unfolding ind
 chosen-abs true x = omega (arith, natAbs-mul (pos 1) x)
 chosen-abs false x = omega (arith, natAbs-mul (pos 0) x)

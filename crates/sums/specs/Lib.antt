@@ -1,3 +1,4 @@
 pub mod Ready
 pub mod Next
 pub mod Shares
+pub mod Meeting

@@ -1,13 +1,19 @@
 -- Shares of the vertices: numbers that are put at single vertices and then handed up, so that each edge gets those put below it.
 use mathlib.Core.Path.{_≡_}
 use mathlib.Core.List.{List}
-use Prim.Native.Nat.{ℕ, zero, suc, _+_, _*_, _≤_}
+use Prim.Native.Nat.{ℕ, zero, suc, _+_, _*_, _≤_, _<_}
 use lib.Dec.{eqb}
 use lib.IntN.{ℤ, pos, natAbs, _+ℤ_, _-ℤ_, _*ℤ_}
 use lib.ListN.{length}
 use Rattle.exact.specs.Sum.{sum, ind}
 use Rattle.tree.specs.Chain.{below}
 use Rattle.walk.specs.Standing.{entryOf}
+
+-- at most 125 edges, and every chain goes up to the root K
+pub record Rooted (K : ℕ) (par : ℕ → ℕ) : Type 0 where
+  pub few : K ≤ 125
+  pub up : (v : ℕ) → v < K → v < par v
+  pub top : (v : ℕ) → v < K → par v ≤ K
 
 -- x is added to the entry of vertex k, and every other entry stays
 pub record Put (k : ℕ) (x : ℤ) (old new : List ℤ) : Type 0 where
@@ -23,9 +29,8 @@ unfoldable pub mass : ℕ → List ℤ → ℕ
 mass zero own = 0
 mass (suc n) own = mass n own + natAbs (entryOf own n)
 
--- the shares of one pair: r at i, r at j, and r taken off twice at m
-pub record Given (i j m : ℕ) (r : ℤ) (old new : List ℤ) : Type 0 where
+-- r put at j, and taken off twice at m
+pub record Given (j m : ℕ) (r : ℤ) (old new : List ℤ) : Type 0 where
   pub size : length new ≡ 126
-  pub more : mass 126 new ≤ mass 126 old + 4 * natAbs r
-  pub entries : (par : ℕ → ℕ) (v : ℕ)
-      → under par new v ≡ under par old v +ℤ (ind (below par i v) +ℤ ind (below par j v) -ℤ pos 2 *ℤ ind (below par m v)) *ℤ r
+  pub more : mass 126 new ≤ mass 126 old + 3 * natAbs r
+  pub entries : (par : ℕ → ℕ) (v : ℕ) → under par new v ≡ under par old v +ℤ (ind (below par j v) -ℤ pos 2 *ℤ ind (below par m v)) *ℤ r

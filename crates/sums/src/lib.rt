@@ -2,18 +2,22 @@
 use matrix::Matrix;
 use tree::Tree;
 ghost use mathlib.Core.Path.{_≡_};
-ghost use Prim.Native.Nat.{ℕ, _+_, _*_, _<_, _^_};
+ghost use mathlib.Core.Bool.{true};
+ghost use mathlib.Core.Logic.{_≢_};
+ghost use Prim.Native.Nat.{ℕ, _+_, _*_, _≤_, _<_, _^_};
+ghost use lib.Count.{ones};
 ghost use lib.IntN.{ℤ, pos, natAbs, _+ℤ_};
 ghost use lib.ListN.{length, getD};
 ghost use Rattle.exact.specs.Sum.{pairs};
 ghost use Rattle.exact.specs.Table.{table};
 ghost use Rattle.matrix.specs.Limits.{maxStrains};
 ghost use Rattle.tree.specs.Chain.{parentOf};
+ghost use Rattle.tree.specs.Cluster.{bitAt};
 ghost use Rattle.walk.specs.Standing.{entryOf};
-ghost use Rattle.walk.specs.Rising.{Rooted, Rises, Meets};
 ghost use Rattle.sums.specs.Ready.{Ready, InRange, left, share};
 ghost use Rattle.sums.specs.Next.{Follows};
-ghost use Rattle.sums.specs.Shares.{Put, Given, under, mass};
+ghost use Rattle.sums.specs.Shares.{Rooted, Put, Given, under, mass};
+ghost use Rattle.sums.specs.Meeting.{Lowest, Carried, Carrying, Apart, Rowed, Met, between, gap};
 
 // Two strains, the first below the second.
 pub struct Pair {
@@ -75,43 +79,143 @@ fn put(own: &mut [i64; Tree::MAX_VERTICES], k: usize, x: i64)
     own[k] = own[k] + x;
 }
 
-// Puts r at i and at j, and takes it off twice at m.
-fn give(own: &mut [i64; Tree::MAX_VERTICES], i: usize, j: usize, m: usize, r: i64)
-    requires { ⌜ (length (now own) ≡ 126) × (i < 126) × (j < 126) × (m < 126) ⌝ }
-    requires { ⌜ mass 126 (now own) + 4 * natAbs r < 2 ^ 63 ⌝ }
-    ensures { λ _. ⌜ Given i j m r (now (own .entry)) (now (own .exit)) ⌝ }
+// Puts r at j, and takes it off twice at m.
+fn give(own: &mut [i64; Tree::MAX_VERTICES], j: usize, m: usize, r: i64)
+    requires { ⌜ (length (now own) ≡ 126) × (j < 126) × (m < 126) ⌝ }
+    requires { ⌜ mass 126 (now own) + 3 * natAbs r < 2 ^ 63 ⌝ }
+    ensures { λ _. ⌜ Given j m r (now (own .entry)) (now (own .exit)) ⌝ }
 {
-    put(own, i, r);
     put(own, j, r);
     put(own, m, 0 - r - r);
 }
 
-// The remainder of a pair that meets at m, by the sums up to the root.
-fn remainder_by_rises(
-    n: usize,
-    edges: usize,
-    d: u32,
-    distances: &[u16; Matrix::MAX_PAIRS],
-    parents: &[u8; Tree::MAX_EDGES],
-    clusters: &[u64; Tree::MAX_VERTICES],
-    numerators: &[i64; Tree::MAX_EDGES],
-    rises: &[i64; Tree::MAX_VERTICES],
-    i: usize,
-    j: usize,
-    m: usize,
-) -> i64
-    requires { ⌜ Ready n edges d (now distances) (now parents) (now clusters) (now numerators) ⌝ }
-    requires { ⌜ Rises edges (parentOf (now parents)) (entryOf (now numerators)) (now rises) ⌝ }
-    requires { ⌜ (i < j) × (j < n) ⌝ }
-    requires { ⌜ Meets edges (parentOf (now parents)) i j m ⌝ }
-    ensures { λ r. ⌜ r ≡ left n edges d (now (distances .entry)) (now (parents .entry)) (now (numerators .entry)) (i, j) ⌝ }
-{
-    let far = distances[matrix::place(n, i, j)] as i64;
-    d as i64 * far - walk::path_by_rises(edges, parents, numerators, rises, i, j, m)
+// The lowest strain of a mask, and the mask without it.
+struct Low {
+    strain: usize,
+    rest: u64,
 }
 
-// Each pair's remainder put at its two strains, and taken off twice where they meet: then the
-// shares below an edge come to the remainders of the pairs that it parts.
+fn lowest(mask: u64) -> Low
+    requires { ⌜ mask ≢ 0 ⌝ }
+    ensures { λ r. ⌜ Lowest mask r ⌝ }
+{
+    let strain = u64::trailing_zeros(mask) as usize;
+    Low {
+        strain,
+        rest: mask - (1u64 << strain),
+    }
+}
+
+fn no_ways() -> [i64; Matrix::MAX_STRAINS]
+    ensures { λ r. ⌜ r ≡ table 64 (λ _. pos 0) ⌝ }
+{
+    [0; Matrix::MAX_STRAINS]
+}
+
+// Carries the strains of a mask over an edge: their ways are longer by x.
+fn carry(ways: &mut [i64; Matrix::MAX_STRAINS], here: u64, x: i64)
+    requires { ⌜ length (now ways) ≡ 64 ⌝ }
+    requires { ⌜ ((i : ℕ) → natAbs (entryOf (now ways) i) ≤ 12500000000000) ⌝ }
+    requires { ⌜ natAbs x ≤ 100000000000 ⌝ }
+    ensures { λ _. ⌜ Carried here x (now (ways .entry)) (now (ways .exit)) ⌝ }
+{
+    let mut left = here;
+    while left != 0 {
+        let low = lowest(left);
+        let i = low.strain;
+        ways[i] = ways[i] + x;
+        left = low.rest;
+    }
+}
+
+// Where the pair of two strains stands among the distances, whichever is named first.
+fn between(n: usize, i: usize, j: usize) -> usize
+    requires { ⌜ (i < n) × (j < n) × (i ≢ j) × (n ≤ maxStrains) ⌝ }
+    ensures { λ r. ⌜ r ≡ between n i j ⌝ }
+{
+    if i < j {
+        return matrix::place(n, i, j);
+    }
+    matrix::place(n, j, i)
+}
+
+// What a pair has left: d times its distance, less the ways of its two strains.
+fn gap(
+    n: usize,
+    d: u32,
+    distances: &[u16; Matrix::MAX_PAIRS],
+    ways: &[i64; Matrix::MAX_STRAINS],
+    i: usize,
+    j: usize,
+) -> i64
+    requires { ⌜ Carrying n d (now distances) (now ways) ⌝ }
+    requires { ⌜ (i < n) × (j < n) × (i ≢ j) ⌝ }
+    ensures { λ r. ⌜ r ≡ gap n d (now (distances .entry)) (now (ways .entry)) i j ⌝ }
+{
+    let far = distances[between(n, i, j)] as i64;
+    d as i64 * far - ways[i] - ways[j]
+}
+
+// What strain j has left with each strain of a mask, put at that strain; and all of it together.
+fn row(
+    n: usize,
+    d: u32,
+    distances: &[u16; Matrix::MAX_PAIRS],
+    ways: &[i64; Matrix::MAX_STRAINS],
+    there: u64,
+    j: usize,
+    own: &mut [i64; Tree::MAX_VERTICES],
+) -> i64
+    requires { ⌜ Carrying n d (now distances) (now ways) ⌝ }
+    requires { ⌜ Apart n d (now distances) (now ways) there j ⌝ }
+    requires { ⌜ (length (now own) ≡ 126) × (mass 126 (now own) + 50200000000000 * ones there < 2 ^ 63) ⌝ }
+    ensures { λ r. ⌜ Rowed n d (now (distances .entry)) (now (ways .entry)) there j r (now (own .entry)) (now (own .exit)) ⌝ }
+{
+    let mut whole = 0;
+    let mut left = there;
+    while left != 0 {
+        let low = lowest(left);
+        let i = low.strain;
+        let r = gap(n, d, distances, ways, i, j);
+        put(own, i, r);
+        whole = whole + r;
+        left = low.rest;
+    }
+    whole
+}
+
+// The strains that come up an edge meet those that stand at its upper end already, at vertex m. Each
+// pair has its remainder left: it counts in both strains' rows (equation 9), and twice it is what
+// m's edge has less than the edges below it (equations 10 and 14).
+fn meet(
+    n: usize,
+    d: u32,
+    distances: &[u16; Matrix::MAX_PAIRS],
+    ways: &[i64; Matrix::MAX_STRAINS],
+    here: u64,
+    there: u64,
+    m: usize,
+    own: &mut [i64; Tree::MAX_VERTICES],
+)
+    requires { ⌜ Carrying n d (now distances) (now ways) ⌝ }
+    requires { ⌜ ((j : ℕ) → bitAt here j ≡ true → Apart n d (now distances) (now ways) there j) ⌝ }
+    requires { ⌜ (length (now own) ≡ 126) × (m < 126) ⌝ }
+    requires { ⌜ mass 126 (now own) + 50200000000000 * (ones here * ones there) < 2 ^ 63 ⌝ }
+    ensures { λ _. ⌜ Met n d (now (distances .entry)) (now (ways .entry)) here there m (now (own .entry)) (now (own .exit)) ⌝ }
+{
+    let mut left = here;
+    while left != 0 {
+        let low = lowest(left);
+        let j = low.strain;
+        let r = row(n, d, distances, ways, there, j, own);
+        give(own, j, m, r);
+        left = low.rest;
+    }
+}
+
+// One pass from the leaves up. At its turn an edge carries the strains below it to its parent, where
+// they meet those that came up before: every pair once, where its path turns. Then the shares below
+// an edge come to the remainders of the pairs that it parts.
 fn shares(
     n: usize,
     edges: usize,
@@ -126,29 +230,18 @@ fn shares(
     ensures { λ r. ⌜ (length r ≡ 126) × (mass 126 r < 2 ^ 63) ⌝ }
     ensures { λ r. ⌜ ((v : ℕ) → v < edges → under (parentOf (now (parents .entry))) r v ≡ pairs n (share n edges d (now (distances .entry)) (now (parents .entry)) (now (numerators .entry)) v)) ⌝ }
 {
-    let rises = walk::rises(edges, parents, numerators);
     let mut own = no_shares();
-    let mut i = 0;
-    let mut j = 1;
-    while j < n {
-        let m = walk::meet(n, edges, parents, clusters, i, j);
-        let r = remainder_by_rises(
-            n,
-            edges,
-            d,
-            distances,
-            parents,
-            clusters,
-            numerators,
-            &rises,
-            i,
-            j,
-            m,
-        );
-        give(&mut own, i, j, m, r);
-        let next = next_pair(i, j);
-        i = next.i;
-        j = next.j;
+    let mut ways = no_ways();
+    let mut come = tree::own_bits(n);
+    let mut v = 0;
+    while v < edges {
+        let here = clusters[v];
+        let m = parents[v] as usize;
+        let there = come[m];
+        carry(&mut ways, here, numerators[v]);
+        meet(n, d, distances, &ways, here, there, m, &mut own);
+        come[m] = there | here;
+        v += 1;
     }
     own
 }

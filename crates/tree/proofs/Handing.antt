@@ -48,7 +48,7 @@ module _ (N : ℕ) (par : ℕ → ℕ) where
   }
 
   -- v's own mask is whole when its turn comes
-  own-done : (v : ℕ) (l : List ℕ) → Handed N par v l → getD l v 0 ≡ cluster N par v
+  pub own-done : (v : ℕ) (l : List ℕ) → Handed N par v l → getD l v 0 ≡ cluster N par v
   own-done v l t = t .held v (omega arith) ∙ mask-cong N _ _ (λ i l. seen-done par i v)
 
   -- vertex v hands its mask to its parent

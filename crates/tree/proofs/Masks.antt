@@ -119,6 +119,20 @@ mask-ones (suc n) b =
     ap ones (mask-top n b) ∙ ones-cat n (digit (b n)) (mask n b) (mask-lt n b) ∙ ap₂ _+_ (ones-digit (b n)) (mask-ones n b)
     ∙ add-comm (digit (b n)) (count n b) ∙ sym (count-suc n b)
 
+-- two masks without a digit in common
+pub masks-apart : (n : ℕ) (a b : ℕ → Bool) → ((i : ℕ) → a i ≡ true → b i ≡ true → ⊥) → ones (mask n a) + ones (mask n b) ≤ n
+masks-apart n a b h = omega (arith, mask-ones n a, mask-ones n b, counts n)
+  where
+    one : (x y : Bool) → (x ≡ true → y ≡ true → ⊥) → cond x 1 0 + cond y 1 0 ≤ 1
+    one true true k = absurd (k refl refl)
+    one true false k = omega arith
+    one false true k = omega arith
+    one false false k = omega arith
+
+    counts : (k : ℕ) → count k a + count k b ≤ k
+    counts zero = omega (arith, count-zero a, count-zero b)
+    counts (suc k) = omega (arith, counts k, count-suc k a, count-suc k b, one (a k) (b k) (h k))
+
 -- what `1u64 << i` computes
 pub shl-one : (i : ℕ) → i < 64 → (1 * 2 ^ i) % 2 ^ 64 ≡ 2 ^ i
 shl-one i h = shl-exact {a = 1} 1 i 64 (omega arith) (omega arith) ∙ one-mul (2 ^ i)

@@ -140,7 +140,7 @@ pub fn check_tree(n: u32, parents: &[u8]) -> Verdict
 }
 
 // The masks that clusters start from: each strain holds itself, an inner vertex nothing.
-fn own_bits(n: usize) -> [u64; Tree::MAX_VERTICES]
+pub fn own_bits(n: usize) -> [u64; Tree::MAX_VERTICES]
     requires { ⌜ n ≤ 64 ⌝ }
     ensures { λ r. ⌜ r ≡ table 126 (λ w. cond (ltb w n) (2 ^ w) 0) ⌝ }
 {

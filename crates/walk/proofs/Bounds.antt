@@ -11,10 +11,9 @@ use Rattle.exact.specs.LeastSquares.{path, hops}
 use Rattle.exact.proofs.Ring.{*ℤ-oneˡ}
 use Rattle.exact.proofs.Range.{within-sum}
 use Rattle.exact.proofs.Sign.{natAbs-sub, within→abs, abs→within}
-use Rattle.tree.specs.Chain.{below, parts, partsPair}
+use Rattle.tree.specs.Chain.{parts, partsPair}
 use Rattle.tree.specs.Way.{way, only}
 use Rattle.walk.specs.Standing.{Small, entryOf}
-use Rattle.walk.specs.Rising.{rise}
 
 -- an entry that is taken or not
 taken : (b : Bool) (c : ℕ) (z : ℤ) → natAbs z ≤ c → natAbs (ind b *ℤ z) ≤ c
@@ -44,10 +43,6 @@ module _ {K : ℕ} {x : List ℤ} (s : Small K x) (k : K ≤ 125) where
   pub path-near : (par : ℕ → ℕ) (p : ℕ × ℕ) → natAbs (path K (partsPair par) (entryOf x) p) ≤ 12500000000000000
   unfolding path
   path-near par p = omega (arith, chosen K 100000000000000 (λ v. partsPair par v p) (entryOf x) (s .near))
-
-  pub rise-near : (par : ℕ → ℕ) (a : ℕ) → natAbs (rise par K (entryOf x) a) ≤ 12500000000000000
-  unfolding rise
-  rise-near par a = omega (arith, chosen K 100000000000000 (below par a) (entryOf x) (s .near))
 
   -- what a climb has added when it stands at a: the way from i without the way from a
   pub gap-near : (par : ℕ → ℕ) (i j a : ℕ) → natAbs (way par K (entryOf x) i j -ℤ way par K (entryOf x) a j) < 2 ^ 63

@@ -1,4 +1,4 @@
--- What the three climbs share. The idea: a climb from i stands at a vertex a above i (`Stands`), and bit j of a's cluster tells
+-- What the two climbs share. The idea: a climb from i stands at a vertex a above i (`Stands`), and bit j of a's cluster tells
 -- whether a is above j too. Where it is not (`Off`), a is an edge, since the root is above every strain, and a's parent is the
 -- next vertex.
 use mathlib.Core.Path.{_≡_, sym, ap, _∙_}

@@ -2,5 +2,3 @@ pub mod Climb
 pub mod Bounds
 pub mod Adding
 pub mod Counting
-pub mod Meeting
-pub mod Rising

@@ -1,16 +1,14 @@
 // Walks over an allowed tree: from a strain up to the first vertex whose cluster has another strain.
 // Every vertex that such a climb passes is an edge that parts the two, and the two climbs of a pair
-// pass every edge that does. The climb ends where the chains of the two meet.
+// pass every edge that does.
 use tree::Tree;
 ghost use mathlib.Core.Path.{_≡_};
 ghost use Prim.Native.Nat.{_<_, _≤_};
 ghost use lib.IntN.{pos};
 ghost use Rattle.exact.specs.LeastSquares.{path, hops};
-ghost use Rattle.exact.specs.Table.{table};
 ghost use Rattle.tree.specs.Chain.{parentOf, partsPair};
 ghost use Rattle.tree.specs.Way.{way};
 ghost use Rattle.walk.specs.Standing.{Standing, Small, entryOf};
-ghost use Rattle.walk.specs.Rising.{Rooted, Rises, Meets};
 
 // The sum of x over the way from strain i to strain j.
 fn one_way(
@@ -91,70 +89,4 @@ pub fn hops(
 {
     edges_one_way(n, edges, parents, clusters, i, j)
         + edges_one_way(n, edges, parents, clusters, j, i)
-}
-
-// The vertex where the chains of strains i and j meet: the first above i that is above j too.
-pub fn meet(
-    n: usize,
-    edges: usize,
-    parents: &[u8; Tree::MAX_EDGES],
-    clusters: &[u64; Tree::MAX_VERTICES],
-    i: usize,
-    j: usize,
-) -> usize
-    requires { ⌜ Standing n edges (now parents) (now clusters) ⌝ }
-    requires { ⌜ (i < n) × (j < n) ⌝ }
-    ensures { λ r. ⌜ Meets edges (parentOf (now (parents .entry))) i j r ⌝ }
-{
-    let mut m = i;
-    while (clusters[m] >> j) % 2 != 1 {
-        m = parents[m] as usize;
-    }
-    m
-}
-
-fn no_rises() -> [i64; Tree::MAX_VERTICES]
-    ensures { λ r. ⌜ r ≡ table 126 (λ _. pos 0) ⌝ }
-{
-    [0; Tree::MAX_VERTICES]
-}
-
-// For each vertex the sum of x over the edges from it up to the root. Parents are greater than
-// children, so a vertex's parent has its sum before the vertex's turn comes.
-pub fn rises(
-    edges: usize,
-    parents: &[u8; Tree::MAX_EDGES],
-    x: &[i64; Tree::MAX_EDGES],
-) -> [i64; Tree::MAX_VERTICES]
-    requires { ⌜ Rooted edges (parentOf (now parents)) ⌝ }
-    requires { ⌜ Small edges (now x) ⌝ }
-    ensures { λ r. ⌜ Rises edges (parentOf (now (parents .entry))) (entryOf (now (x .entry))) r ⌝ }
-{
-    let mut rise = no_rises();
-    let mut v = edges;
-    while v > 0 {
-        v -= 1;
-        rise[v] = x[v] + rise[parents[v] as usize];
-    }
-    rise
-}
-
-// The path again, where the sums up to the root and the vertex m where i and j meet are known.
-pub fn path_by_rises(
-    edges: usize,
-    parents: &[u8; Tree::MAX_EDGES],
-    x: &[i64; Tree::MAX_EDGES],
-    rises: &[i64; Tree::MAX_VERTICES],
-    i: usize,
-    j: usize,
-    m: usize,
-) -> i64
-    requires { ⌜ edges ≤ 125 ⌝ }
-    requires { ⌜ Small edges (now x) ⌝ }
-    requires { ⌜ Rises edges (parentOf (now parents)) (entryOf (now x)) (now rises) ⌝ }
-    requires { ⌜ (i ≤ edges) × (j ≤ edges) ⌝ }
-    requires { ⌜ Meets edges (parentOf (now parents)) i j m ⌝ }
-    ensures { λ r. ⌜ r ≡ path edges (partsPair (parentOf (now (parents .entry)))) (entryOf (now (x .entry))) (i, j) ⌝ }
-{
-    rises[i] + rises[j] - rises[m] - rises[m]
 }

@@ -1,73 +1,85 @@
--- `shares`: one pair a turn, its remainder given to its two strains and taken off twice where they meet.
-use borrow.Author.Needs.{needs}
+-- `shares`: one edge a turn, whose strains are carried to its parent and meet those that are there.
 use mathlib.Core.Path.{_≡_, ap}
+use Prim.Native.Nat.{_-_, _≤_}
 use native.Mathlib.Omega.{arith}
+use borrow.Author.Needs.{needs}
 use lib.IntN.{natAbs}
 use mir.Syntax.{w64}
 use mir.Val.{toZ, ofZ}
-use mir.Facts.{toZ-ofZ}
-use Rattle.sums.specs.Ready.{left}
-use Rattle.sums.specs.Next.{ahead}
-use Rattle.sums.proofs.Gathering.{Gathered, gather-start, left-near, gather-turn, gather-end}
-use Rattle.sums.proofs.Remaining.{left-fits}
+use Rattle.exact.proofs.Sign.{back}
+use Rattle.tree.specs.Chain.{parentOf}
+use Rattle.walk.specs.Standing.{entryOf}
+use Rattle.sums.proofs.Gathering.{Gathered, gather-start, gather-end, few-edges, parent-low, numerator-back, numerator-low, ways-low, turn-room, carrying, all-apart, gather-turn}
 use Rattle.sums.proofs.shares.Statement.{statement}
 use Rattle.sums.proofs.shares.Tie as tie
 
 abbrev Inv-loop : tie.InvT-loop
-Inv-loop n edges d distances parents clusters numerators rises own₀ i₀ j₀ own i j = Gathered n edges d distances parents numerators i j own
+Inv-loop n edges d distances parents clusters numerators own₀ ways₀ come₀ v₀ own ways come v = Gathered n edges d distances parents numerators v own ways come
 
 abbrev μ-loop : tie.MeasureT-loop
-μ-loop n edges d distances parents clusters numerators rises own₀ i₀ j₀ own i j = ahead n i j
-
-rises-requires : tie.Need-rises-requires Inv-loop μ-loop
-rises-requires c κs = search needs
+μ-loop n edges d distances parents clusters numerators own₀ ways₀ come₀ v₀ own ways come v = edges - v
 
 no-shares-requires : tie.Need-no-shares-requires Inv-loop μ-loop
 no-shares-requires c κs = search needs
 
+no-ways-requires : tie.Need-no-ways-requires Inv-loop μ-loop
+no-ways-requires c κs = search needs
+
+own-bits-requires : tie.Need-own-bits-requires Inv-loop μ-loop
+own-bits-requires c κs = omega (arith, c .before .before .pre .0 .standing .allowed .few)
+
 loop-holds : tie.Need-loop-holds Inv-loop μ-loop
-loop-holds c = gather-start (c .before .before .pre .0) _ (c .no-shares .ensures)
+loop-holds c = gather-start (c .before .before .before .pre .0) _ _ _ (c .before .before .no-shares .ensures) (c .before .no-ways .ensures) (c .own-bits .ensures)
+
+mul-here : tie.Need-mul-here Inv-loop μ-loop
+mul-here c = omega (arith, c .loop-test .taken, few-edges (c .before .before .before .before .before .pre .0))
+
+element-copy-out-here : tie.Need-element-copy-out-here Inv-loop μ-loop
+element-copy-out-here c = omega (arith, c .loop-test .taken, few-edges (c .before .before .before .before .before .pre .0))
+
+element-copy-out-m : tie.Need-element-copy-out-m Inv-loop μ-loop
+element-copy-out-m c = omega (arith, c .before .loop-test .taken, few-edges (c .before .before .before .before .before .before .pre .0))
+
+cast-m : tie.Need-cast-m Inv-loop μ-loop
+cast-m c = omega (arith, parent-low (c .before .before .before .before .before .before .before .pre .0) (c .before .before .before .before .before .before .before .pre .1) (c .before .before .before .loop .v) (c .before .before .before .loop .own) (c .before .before .before .loop .ways) (c .before .before .before .loop .come) (c .before .before .before .loop .inv) (c .before .before .loop-test .taken))
+
+mul-there : tie.Need-mul-there Inv-loop μ-loop
+mul-there c = omega (arith, parent-low (c .before .before .before .before .before .before .before .pre .0) (c .before .before .before .before .before .before .before .pre .1) (c .before .before .before .loop .v) (c .before .before .before .loop .own) (c .before .before .before .loop .ways) (c .before .before .before .loop .come) (c .before .before .before .loop .inv) (c .before .before .loop-test .taken))
+
+array-read-there : tie.Need-array-read-there Inv-loop μ-loop
+array-read-there c = omega (arith, parent-low (c .before .before .before .before .before .before .before .pre .0) (c .before .before .before .before .before .before .before .pre .1) (c .before .before .before .loop .v) (c .before .before .before .loop .own) (c .before .before .before .loop .ways) (c .before .before .before .loop .come) (c .before .before .before .loop .inv) (c .before .before .loop-test .taken))
+
+mul-carry : tie.Need-mul-carry Inv-loop μ-loop
+mul-carry c = omega (arith, c .before .before .before .loop-test .taken, few-edges (c .before .before .before .before .before .before .before .before .pre .0))
+
+element-copy-out-carry : tie.Need-element-copy-out-carry Inv-loop μ-loop
+element-copy-out-carry c = omega (arith, c .before .before .before .loop-test .taken, few-edges (c .before .before .before .before .before .before .before .before .pre .0))
+
+carry-requires : tie.Need-carry-requires Inv-loop μ-loop
+carry-requires c κs = (c .before .before .before .before .before .loop .inv .long, (ways-low (c .before .before .before .before .before .before .before .before .before .pre .0) (c .before .before .before .before .before .before .before .before .before .pre .1) (c .before .before .before .before .before .loop .v) (c .before .before .before .before .before .loop .own) (c .before .before .before .before .before .loop .ways) (c .before .before .before .before .before .loop .come) (c .before .before .before .before .before .loop .inv) (c .before .before .before .before .loop-test .taken), numerator-low (c .before .before .before .before .before .before .before .before .before .pre .0) (c .before .before .before .before .before .before .before .before .before .pre .1) (c .before .before .before .before .before .loop .v) (c .before .before .before .before .before .loop .own) (c .before .before .before .before .before .loop .ways) (c .before .before .before .before .before .loop .come) (c .before .before .before .before .before .loop .inv) (c .before .before .before .before .loop-test .taken)))
 
 meet-requires : tie.Need-meet-requires Inv-loop μ-loop
-meet-requires c κs = search needs
+meet-requires c κs = (carrying (c .before .before .before .before .before .before .before .before .before .before .before .before .pre .0) (c .before .before .before .before .before .before .before .before .before .before .before .before .pre .1) (c .before .before .before .before .before .before .before .before .loop .v) (c .before .before .before .before .before .before .before .before .loop .own) (c .before .before .before .before .before .before .before .before .loop .ways) (c .before .before .before .before .before .before .before .before .loop .come) (c .before .before .before .before .before .before .before .before .loop .inv) (c .before .before .before .before .before .before .before .loop-test .taken) _ (numerator-back (c .before .before .before .before .before .before .before .before .before .before .before .before .pre .0) (c .before .before .before .before .before .before .before .before .before .before .before .before .pre .1) (c .before .before .before .before .before .before .before .before .loop .v) (c .before .before .before .before .before .before .before .before .loop .own) (c .before .before .before .before .before .before .before .before .loop .ways) (c .before .before .before .before .before .before .before .before .loop .come) (c .before .before .before .before .before .before .before .before .loop .inv) (c .before .before .before .before .before .before .before .loop-test .taken)) (c .before .before .carry .last .0) (c .before .before .carry .ensures), (all-apart (c .before .before .before .before .before .before .before .before .before .before .before .before .pre .0) (c .before .before .before .before .before .before .before .before .before .before .before .before .pre .1) (c .before .before .before .before .before .before .before .before .loop .v) (c .before .before .before .before .before .before .before .before .loop .own) (c .before .before .before .before .before .before .before .before .loop .ways) (c .before .before .before .before .before .before .before .before .loop .come) (c .before .before .before .before .before .before .before .before .loop .inv) (c .before .before .before .before .before .before .before .loop-test .taken) _ (numerator-back (c .before .before .before .before .before .before .before .before .before .before .before .before .pre .0) (c .before .before .before .before .before .before .before .before .before .before .before .before .pre .1) (c .before .before .before .before .before .before .before .before .loop .v) (c .before .before .before .before .before .before .before .before .loop .own) (c .before .before .before .before .before .before .before .before .loop .ways) (c .before .before .before .before .before .before .before .before .loop .come) (c .before .before .before .before .before .before .before .before .loop .inv) (c .before .before .before .before .before .before .before .loop-test .taken)) (c .before .before .carry .last .0) (c .before .before .carry .ensures), ((c .before .before .before .before .before .before .before .before .loop .inv .size, omega (arith, parent-low (c .before .before .before .before .before .before .before .before .before .before .before .before .pre .0) (c .before .before .before .before .before .before .before .before .before .before .before .before .pre .1) (c .before .before .before .before .before .before .before .before .loop .v) (c .before .before .before .before .before .before .before .before .loop .own) (c .before .before .before .before .before .before .before .before .loop .ways) (c .before .before .before .before .before .before .before .before .loop .come) (c .before .before .before .before .before .before .before .before .loop .inv) (c .before .before .before .before .before .before .before .loop-test .taken))), turn-room (c .before .before .before .before .before .before .before .before .before .before .before .before .pre .0) (c .before .before .before .before .before .before .before .before .before .before .before .before .pre .1) (c .before .before .before .before .before .before .before .before .loop .v) (c .before .before .before .before .before .before .before .before .loop .own) (c .before .before .before .before .before .before .before .before .loop .ways) (c .before .before .before .before .before .before .before .before .loop .come) (c .before .before .before .before .before .before .before .before .loop .inv) (c .before .before .before .before .before .before .before .loop-test .taken))))
 
-remainder-by-rises-requires : tie.Need-remainder-by-rises-requires Inv-loop μ-loop
-remainder-by-rises-requires c κs = let l = c .before .before .before in
-    let p = l .before .before .before in
-    (p .pre .0, (l .before .before .rises .ensures, ((l .loop .inv .rising, c .before .before .loop-test .taken), c .before .meet .ensures)))
+mul-come : tie.Need-mul-come Inv-loop μ-loop
+mul-come c = omega (arith, parent-low (c .before .before .before .before .before .before .before .before .before .before .before .before .before .pre .0) (c .before .before .before .before .before .before .before .before .before .before .before .before .before .pre .1) (c .before .before .before .before .before .before .before .before .before .loop .v) (c .before .before .before .before .before .before .before .before .before .loop .own) (c .before .before .before .before .before .before .before .before .before .loop .ways) (c .before .before .before .before .before .before .before .before .before .loop .come) (c .before .before .before .before .before .before .before .before .before .loop .inv) (c .before .before .before .before .before .before .before .before .loop-test .taken))
 
--- the number that is given
-told : (c : tie.After-remainder-by-rises Inv-loop μ-loop) → let l = c .before .before .before .before in let a = l .before .before .before .args in
-    toZ w64 (ofZ w64 (c .remainder-by-rises .result)) ≡ left (a .n) (a .edges) (a .d) (a .distances .now) (a .parents .now) (a .numerators .now) (l .loop .i, l .loop .j)
-told c = let l = c .before .before .before .before in
-    rw (c .remainder-by-rises .ensures) (toZ-ofZ (left-fits (l .before .before .before .pre .0) _ _ (l .loop .inv .rising) (c .before .before .before .loop-test .taken)))
+array-write-come : tie.Need-array-write-come Inv-loop μ-loop
+array-write-come c = omega (arith, parent-low (c .before .before .before .before .before .before .before .before .before .before .before .before .before .pre .0) (c .before .before .before .before .before .before .before .before .before .before .before .before .before .pre .1) (c .before .before .before .before .before .before .before .before .before .loop .v) (c .before .before .before .before .before .before .before .before .before .loop .own) (c .before .before .before .before .before .before .before .before .before .loop .ways) (c .before .before .before .before .before .before .before .before .before .loop .come) (c .before .before .before .before .before .before .before .before .before .loop .inv) (c .before .before .before .before .before .before .before .before .loop-test .taken))
 
-give-requires : tie.Need-give-requires Inv-loop μ-loop
-give-requires c κs = let l = c .before .before .before .before .before in
-    let p = l .before .before .before in
-    let w = p .pre .0 in
-    let a = w .standing .allowed in
-    let g = l .loop .inv in
-    let j<n = c .before .before .before .before .loop-test .taken in (
-      (g .size, omega (arith, g .rising, a .few), omega (arith, a .few), omega (arith, c .before .before .before .meet .ensures .on, a .few, a .most)),
-      omega (arith, g .light, left-near w (p .pre .1) (l .loop .i, l .loop .j), ap natAbs (told (c .before))),
-    )
-
-next-pair-requires : tie.Need-next-pair-requires Inv-loop μ-loop
-next-pair-requires c κs = search needs
+add-v : tie.Need-add-v Inv-loop μ-loop
+add-v c = omega (arith, c .before .before .before .before .before .before .before .before .loop-test .taken, few-edges (c .before .before .before .before .before .before .before .before .before .before .before .before .before .pre .0))
 
 loop-less : tie.Need-loop-less Inv-loop μ-loop
-loop-less c = c .next-pair .ensures .nearer _ (c .before .before .before .before .before .before .loop-test .taken)
+loop-less c = omega (arith, c .before .before .before .before .before .before .before .before .loop-test .taken)
 
 loop-again : tie.Need-loop-again Inv-loop μ-loop
-loop-again c = let o = c .before .before .before in
-    let l = o .before .before .before .before in
-    let p = l .before .before .before in
-    gather-turn (p .pre .0) (p .pre .1) (l .loop .i) (l .loop .j) _ _ (l .loop .own) (c .before .give .last .0) (c .next-pair .result) (o .before .before .before .loop-test .taken) (o .before .before .meet .ensures) (told o) (c .before .give .ensures) (c .next-pair .ensures) (l .loop .inv)
+loop-again c = gather-turn (c .before .before .before .before .before .before .before .before .before .before .before .before .before .pre .0) (c .before .before .before .before .before .before .before .before .before .before .before .before .before .pre .1) (c .before .before .before .before .before .before .before .before .before .loop .v) (c .before .before .before .before .before .before .before .before .before .loop .own) (c .before .before .before .before .before .before .before .before .before .loop .ways) (c .before .before .before .before .before .before .before .before .before .loop .come) (c .before .before .before .before .before .before .before .before .before .loop .inv) (c .before .before .before .before .before .before .before .before .loop-test .taken) _ (numerator-back (c .before .before .before .before .before .before .before .before .before .before .before .before .before .pre .0) (c .before .before .before .before .before .before .before .before .before .before .before .before .before .pre .1) (c .before .before .before .before .before .before .before .before .before .loop .v) (c .before .before .before .before .before .before .before .before .before .loop .own) (c .before .before .before .before .before .before .before .before .before .loop .ways) (c .before .before .before .before .before .before .before .before .before .loop .come) (c .before .before .before .before .before .before .before .before .before .loop .inv) (c .before .before .before .before .before .before .before .before .loop-test .taken)) (c .before .before .before .carry .last .0) (c .before .before .before .carry .ensures) (c .meet .last .1 .1 .1 .1 .1 .1 .1 .0) (c .meet .ensures)
 
 returns : tie.Need-returns Inv-loop μ-loop
 returns c = let g = c .before .loop .inv in
-    ((g .size, omega (arith, g .light)), gather-end (c .before .before .before .before .pre .0) _ _ _ (c .loop-test .left) g)
+    let w = c .before .before .before .before .before .pre .0 in
+    ((g .size, omega (arith, g .light, g .here, few-edges w)), gather-end w _ _ _ _ (c .loop-test .left) g)
 
 pub shares-spec : {M : Type 1} → statement M
 shares-spec =
@@ -75,13 +87,23 @@ shares-spec =
     (tie.spec
     Inv-loop
     μ-loop
-    rises-requires
     no-shares-requires
+    no-ways-requires
+    own-bits-requires
     loop-holds
+    mul-here
+    element-copy-out-here
+    element-copy-out-m
+    cast-m
+    mul-there
+    array-read-there
+    mul-carry
+    element-copy-out-carry
+    carry-requires
     meet-requires
-    remainder-by-rises-requires
-    give-requires
-    next-pair-requires
+    mul-come
+    array-write-come
+    add-v
     loop-less
     loop-again
     returns)

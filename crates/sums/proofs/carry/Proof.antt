@@ -1,0 +1,75 @@
+-- `carry`: one strain a turn, the lowest that is left.
+use native.Mathlib.Omega.{arith}
+use mathlib.Core.Path.{ap, subst}
+use Prim.Native.Nat.{_≤_}
+use lib.IntN.{natAbs}
+use mir.Syntax.{w64}
+use mir.Val.{toZ, ofZ}
+use mir.Facts.{toZ-ofZ}
+use Rattle.sums.specs.Meeting.{Carried}
+use Rattle.sums.proofs.Carries.{Carry, carry-start, carry-fits, carry-turn, carry-end}
+use Rattle.sums.proofs.carry.Statement.{statement}
+use Rattle.sums.proofs.carry.Tie as tie
+
+abbrev Inv-loop : tie.InvT-loop
+Inv-loop ways₀ here x left₀ ways left = Carry here (toZ w64 x) ways₀ left ways
+
+abbrev μ-loop : tie.MeasureT-loop
+μ-loop ways₀ here x left₀ ways left = left
+
+loop-holds : tie.Need-loop-holds Inv-loop μ-loop
+loop-holds c = carry-start (c .args .here) _ (c .args .ways .now) (c .pre .0)
+
+lowest-requires : tie.Need-lowest-requires Inv-loop μ-loop
+lowest-requires c κs = c .loop-test .taken
+
+mul-ways : tie.Need-mul-ways Inv-loop μ-loop
+mul-ways c = omega (arith, c .lowest .ensures .within)
+
+element-copy-out-ways : tie.Need-element-copy-out-ways Inv-loop μ-loop
+element-copy-out-ways c = c .lowest .ensures .within
+
+-- x as it is passed
+near : (c : tie.After-ways Inv-loop μ-loop) → natAbs (toZ w64 (ofZ w64 (c .before .before .before .before .args .x))) ≤ 100000000000
+near c = let p = c .before .before .before .before in omega (arith, ap natAbs (toZ-ofZ (p .fits .x)), p .pre .1 .1)
+
+add-ways : tie.Need-add-ways Inv-loop μ-loop
+add-ways c = let l = c .before .before .before in
+    let p = l .before in
+    carry-fits (p .args .here) _ (p .args .ways .now) (l .loop .left) (l .loop .ways) (l .loop .inv) (p .pre .1 .0) (near c) (c .before .lowest .result) (c .before .lowest .ensures)
+
+mul-t13 : tie.Need-mul-t13 Inv-loop μ-loop
+mul-t13 c = omega (arith, c .before .lowest .ensures .within)
+
+element-set-from-ways : tie.Need-element-set-from-ways Inv-loop μ-loop
+element-set-from-ways c = c .before .lowest .ensures .within
+
+loop-less : tie.Need-loop-less Inv-loop μ-loop
+loop-less c = c .before .lowest .ensures .less
+
+loop-again : tie.Need-loop-again Inv-loop μ-loop
+loop-again c = let l = c .before .before .before in
+    let p = l .before in
+    carry-turn (p .args .here) _ (p .args .ways .now) (l .loop .left) (l .loop .ways) (l .loop .inv) (p .pre .1 .0) (near c) (c .before .lowest .result) (c .before .lowest .ensures)
+
+returns : tie.Need-returns Inv-loop μ-loop
+returns c = let p = c .before .before in
+    subst (λ y. Carried (p .args .here) y (p .args .ways .now) (c .before .loop .ways)) (toZ-ofZ (p .fits .x))
+    (carry-end (p .args .here) _ (p .args .ways .now) (c .before .loop .left) (c .before .loop .ways) (c .loop-test .left) (c .before .loop .inv))
+
+pub carry-spec : {M : Type 1} → statement M
+carry-spec =
+    tie.close
+    (tie.spec
+    Inv-loop
+    μ-loop
+    loop-holds
+    lowest-requires
+    mul-ways
+    element-copy-out-ways
+    add-ways
+    mul-t13
+    element-set-from-ways
+    loop-less
+    loop-again
+    returns)

@@ -1,0 +1,39 @@
+-- `lowest`: the count of zeros below the lowest digit is its place.
+use mathlib.Core.Path.{_≡_, refl, sym, ap, _∙_, subst}
+use Prim.Native.Nat.{ℕ, _-_, _*_, _%_, _^_}
+use native.Mathlib.Omega.{arith}
+use lib.Count.{trailingZeros}
+use lib.Pow.{pow-pos}
+use Rattle.tree.proofs.Masks.{shl-one}
+use Rattle.sums.specs.declared.Low.{Low}
+use Rattle.sums.specs.Meeting.{Lowest}
+use Rattle.sums.proofs.Digits.{Lows, low-trailing}
+use Rattle.sums.proofs.lowest.Statement.{statement}
+use Rattle.sums.proofs.lowest.Tie as tie
+use Rattle.sums.proofs.lowest.Reads as reads
+use Rattle.sums.proofs.lowest.Lts as lts
+
+found : (c : lts.Start reads.Pre reads.Post) → Lows 64 (c .args .mask) (trailingZeros 64 (c .args .mask))
+found c = low-trailing 64 (c .args .mask) (c .pre) (omega (arith, c .fits .mask))
+
+shifted : (c : lts.Start reads.Pre reads.Post) → (1 * 2 ^ trailingZeros 64 (c .args .mask)) % 2 ^ 64 ≡ 2 ^ trailingZeros 64 (c .args .mask)
+shifted c = shl-one (trailingZeros 64 (c .args .mask)) (found c .within)
+
+cast-strain : tie.Need-cast-strain
+cast-strain c = omega (arith, found c .within)
+
+shl-t5 : tie.Need-shl-t5
+shl-t5 c = found c .within
+
+sub-t6 : tie.Need-sub-t6
+sub-t6 c = omega (arith, shifted c, found c .some)
+
+taken : (m i : ℕ) → Lows 64 m i → Lowest m (record { strain = i; rest = m - 2 ^ i })
+taken m i l = record { within = l .within; less = omega (arith, l .some, pow-pos i); bits = l .bits; fewer = l .fewer }
+
+returns : tie.Need-returns
+returns c = let i = trailingZeros 64 (c .args .mask) in
+    subst (λ (y : ℕ). Lowest (c .args .mask) (record { strain = i; rest = c .args .mask - y })) (sym (shifted c)) (taken (c .args .mask) i (found c))
+
+pub lowest-spec : {M : Type 1} → statement M
+lowest-spec = tie.close (tie.spec cast-strain shl-t5 sub-t6 returns)

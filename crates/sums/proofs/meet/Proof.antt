@@ -1,0 +1,59 @@
+-- `meet`: one strain's row a turn, the lowest strain that is left.
+use native.Mathlib.Omega.{arith}
+use Rattle.sums.proofs.Meetings.{Joining, join-start, join-end, join-apart, join-room, give-room, join-turn}
+use Rattle.sums.proofs.meet.Statement.{statement}
+use Rattle.sums.proofs.meet.Tie as tie
+
+abbrev Inv-loop : tie.InvT-loop
+Inv-loop n d distances ways here there m own₀ left₀ own left = Joining n d distances ways here there m own₀ left own
+
+abbrev μ-loop : tie.MeasureT-loop
+μ-loop n d distances ways here there m own₀ left₀ own left = left
+
+loop-holds : tie.Need-loop-holds Inv-loop μ-loop
+loop-holds c = join-start _ _ _ _ _ _ _ _ (c .pre .1 .1 .0 .0)
+
+lowest-requires : tie.Need-lowest-requires Inv-loop μ-loop
+lowest-requires c κs = c .loop-test .taken
+
+row-requires : tie.Need-row-requires Inv-loop μ-loop
+row-requires c κs = let l = c .before .before .before in
+    let p = l .before in
+    let low = c .before .lowest in
+    (p .pre .0, (join-apart (p .args .n) (p .args .d) (p .args .distances .now) (p .args .ways .now) (p .args .here) (p .args .there) (p .args .m) (p .args .own .now) (p .pre .1 .0) (p .pre .1 .1 .1) (l .loop .left) (l .loop .own) (l .loop .inv) (low .result) (low .ensures), (l .loop .inv .size, join-room (p .args .n) (p .args .d) (p .args .distances .now) (p .args .ways .now) (p .args .here) (p .args .there) (p .args .m) (p .args .own .now) (p .pre .1 .0) (p .pre .1 .1 .1) (l .loop .left) (l .loop .own) (l .loop .inv) (low .result) (low .ensures))))
+
+give-requires : tie.Need-give-requires Inv-loop μ-loop
+give-requires c κs = let l = c .before .before .before .before .before in
+    let p = l .before in
+    let low = c .before .before .before .lowest in
+    let row = c .before .row in (
+      (row .ensures .size, omega (arith, low .ensures .within), p .pre .1 .1 .0 .1),
+      give-room (p .args .n) (p .args .d) (p .args .distances .now) (p .args .ways .now) (p .args .here) (p .args .there) (p .args .m) (p .args .own .now) (p .pre .1 .0) (p .pre .1 .1 .1) (l .loop .left) (l .loop .own) (l .loop .inv) (low .result) (low .ensures) (row .result) (row .last .1 .1 .1 .1 .1 .1 .0) (row .ensures),
+    )
+
+loop-less : tie.Need-loop-less Inv-loop μ-loop
+loop-less c = c .before .before .before .before .lowest .ensures .less
+
+loop-again : tie.Need-loop-again Inv-loop μ-loop
+loop-again c = let l = c .before .before .before .before .before .before in
+    let p = l .before in
+    let low = c .before .before .before .before .lowest in
+    let row = c .before .before .row in
+    join-turn (p .args .n) (p .args .d) (p .args .distances .now) (p .args .ways .now) (p .args .here) (p .args .there) (p .args .m) (p .args .own .now) (p .pre .1 .0) (p .pre .1 .1 .1) (l .loop .left) (l .loop .own) (l .loop .inv) (low .result) (low .ensures) (row .result) (row .last .1 .1 .1 .1 .1 .1 .0) (row .ensures) (c .give .last .0) (c .give .ensures)
+
+returns : tie.Need-returns Inv-loop μ-loop
+returns c = join-end _ _ _ _ _ _ _ _ (c .before .loop .left) (c .before .loop .own) (c .loop-test .left) (c .before .loop .inv)
+
+pub meet-spec : {M : Type 1} → statement M
+meet-spec =
+    tie.close
+    (tie.spec
+    Inv-loop
+    μ-loop
+    loop-holds
+    lowest-requires
+    row-requires
+    give-requires
+    loop-less
+    loop-again
+    returns)
