@@ -166,7 +166,10 @@ fn no_lengths() -> [i64; Tree::MAX_EDGES]
     [0; Tree::MAX_EDGES]
 }
 
-// The split sum of each edge: what its remainders would add to over a denominator of 1 and no lengths.
+// The split sum of each edge. Over a denominator of 1 and no lengths a remainder is the distance itself,
+// so the steps of `edge_sums` are those of Bryant and Waddell (document 000): an outer edge has its
+// strain's row sum (equation 9); an inner edge has its children's split sums together, less twice the
+// distances between different children's clusters (equation 14, and 10 for two children).
 fn split(matrix: Matrix, tree: Tree) -> [i64; Tree::MAX_EDGES]
     requires { ⌜ Standing (tree .n) (tree .edges) (tree .parents) (tree .clusters) ⌝ }
     requires { ⌜ ((k : ℕ) → getD (matrix .distances) k 0 ≤ maxDistance) ⌝ }
@@ -187,7 +190,8 @@ fn split(matrix: Matrix, tree: Tree) -> [i64; Tree::MAX_EDGES]
     )
 }
 
-// Split sums: 4, 6 to 10, 15, the first that applies; a refusal leaves the buffer as it was.
+// Split sums, by equations 9 and 14 of document 000 (`split`): 4, 6 to 10, 15, the first that applies; a
+// refusal leaves the buffer as it was.
 pub fn split_sums(n: u32, distances: &[u16], parents: &[u8], sums: &mut [i64]) -> Verdict
     ensures { λ r. ⌜ SplitAnswer n (now (distances .entry)) (now (parents .entry)) (now (sums .entry)) (now (sums .exit)) r ⌝ }
 {

@@ -1,10 +1,10 @@
 -- Carrying the strains of a mask over an edge. The idea: each way is what it was, and x more once its strain is off the mask that is left.
 use mathlib.Core.Path.{_≡_, refl, sym, ap, _∙_}
 use mathlib.Core.List.{List, [], _∷_}
-use Prim.Native.Nat.{ℕ, _+_, _<_, _≤_}
+use Prim.Native.Nat.{ℕ, _≤_}
 use native.Mathlib.Omega.{arith}
 use lib.Dec.{eqb}
-use lib.IntN.{ℤ, pos, natAbs, _+ℤ_, _-ℤ_, _*ℤ_}
+use lib.IntN.{ℤ, natAbs, _+ℤ_, _-ℤ_, _*ℤ_}
 use lib.ListN.{length, set, length-set}
 use mir.Syntax.{w64}
 use mir.Val.{SFits, toZ, ofZ}
@@ -24,19 +24,19 @@ pub record Carry (here : ℕ) (x : ℤ) (old : List ℤ) (left : ℕ) (now : Lis
   pub size : length now ≡ 64
   pub entries : (i : ℕ) → entryOf now i +ℤ ind (bitAt left i) *ℤ x ≡ entryOf old i +ℤ ind (bitAt here i) *ℤ x
 
-pub carry-start : (here : ℕ) (x : ℤ) (old : List ℤ) → length old ≡ 64 → Carry here x old here old
-carry-start here x old e = record { size = e; entries = λ i. refl }
+pub carry-start : {here : ℕ} {x : ℤ} {old : List ℤ} → length old ≡ 64 → Carry here x old here old
+carry-start e = record { size = e; entries = λ i. refl }
 
-pub carry-end : (here : ℕ) (x : ℤ) (old : List ℤ) (left : ℕ) (now : List ℤ) → left ≡ 0 → Carry here x old left now → Carried here x old now
-carry-end here x old left now e t = record {
+pub carry-end : {here : ℕ} {x : ℤ} {old : List ℤ} {left : ℕ} {now : List ℤ} → left ≡ 0 → Carry here x old left now → Carried here x old now
+carry-end {x = x} {now = now} e t = record {
   size = t .size;
   entries = λ i. by-ring (entryOf now i ∷ x ∷ []) (search quote depth 20) tt
       ∙ ap (λ y. entryOf now i +ℤ y *ℤ x) (sym (ap (λ (m : ℕ). ind (bitAt m i)) e ∙ ind-no (bit-none i)))
       ∙ t .entries i;
 }
 
-module _ (here : ℕ) (x : ℤ) (old : List ℤ) (left : ℕ) (now : List ℤ) (t : Carry here x old left now)
-    (low : (i : ℕ) → natAbs (entryOf old i) ≤ 12500000000000) (near : natAbs x ≤ 100000000000) (r : Low) (w : Lowest left r) where
+module _ {here : ℕ} {x : ℤ} {old : List ℤ} {left : ℕ} {now : List ℤ} (t : Carry here x old left now)
+    (low : (i : ℕ) → natAbs (entryOf old i) ≤ 12500000000000) (near : natAbs x ≤ 100000000000) {r : Low} (w : Lowest left r) where
   abbrev s : ℕ
   s = r .strain
 

@@ -1,16 +1,15 @@
 -- The lowest strain of a mask. The idea: digit by digit from the lowest. Where the lowest digit is set, taking it off leaves the others;
 -- where it is not, the law for the other digits is the law for all.
-use mathlib.Core.Path.{_≡_, refl, sym, ap, ap₂, _∙_, subst}
-use mathlib.Core.Bool.{Bool, true, false}
+use mathlib.Core.Path.{_≡_, refl, sym, ap, ap₂, _∙_}
+use mathlib.Core.Bool.{true, false}
 use mathlib.Core.Logic.{_≢_}
-use Prim.Native.Nat.{ℕ, zero, suc, _+_, _-_, _*_, _/_, _%_, _^_, _≤_, _<_}
+use Prim.Native.Nat.{ℕ, zero, suc, _-_, _*_, _/_, _%_, _^_, _≤_, _<_}
 use native.Mathlib.Decide.{ℕ-discrete}
 use native.Mathlib.Nat.{pow-suc, pow-succ', div-div-eq-div-mul, div-one}
 use native.Mathlib.Omega.{arith}
 use lib.Count.{ones, ones-step, trailingZeros}
 use lib.Dec.{eqb}
-use lib.IntN.{ℤ, pos, _+ℤ_, +ℤ-idr, +ℤ-idl}
-use lib.Pow.{pow-pos}
+use lib.IntN.{_+ℤ_, +ℤ-idr}
 use Rattle.exact.specs.Sum.{ind}
 use Rattle.exact.proofs.Decide.{by-cases, eq-yes, eq-no}
 use Rattle.exact.proofs.Sum.{ind-no}

@@ -1,11 +1,11 @@
 -- The pass from the leaves up, one turn an edge. When vertex v's turn comes, the pairs that stand at one vertex have met, and below each
 -- edge the shares come to what those pairs give it. At the root all stand together.
 -- `gather-start` starts it, `gather-turn` is one turn, `gather-end` its end.
-use mathlib.Core.Path.{_≡_, refl, sym, _∙_, ap, ap₂, subst}
+use mathlib.Core.Path.{_≡_, sym, _∙_, ap, ap₂, subst}
 use mathlib.Core.Bool.{Bool, true, false, true≢false}
 use mathlib.Core.List.{List, [], _∷_}
 use mathlib.Core.Logic.{_≢_}
-use Prim.Native.Nat.{ℕ, zero, suc, _+_, _*_, _≤_, _<_, _^_}
+use Prim.Native.Nat.{ℕ, suc, _+_, _*_, _≤_, _<_, _^_}
 use native.Mathlib.Decide.{ℕ-discrete, decLt, decLe}
 use native.Mathlib.Nat.{mul-le-mul}
 use native.Mathlib.Numerals.{add-one}
@@ -17,7 +17,7 @@ use lib.IntN.{ℤ, pos, natAbs, _+ℤ_, _-ℤ_, _*ℤ_, zero-*ℤ, *ℤ-zero}
 use lib.ListN.{length, getD, set}
 use mir.Syntax.{w64}
 use mir.Val.{toZ, ofZ}
-use Rattle.exact.specs.Sum.{sum, pairs, ind}
+use Rattle.exact.specs.Sum.{pairs, ind}
 use Rattle.exact.specs.Table.{table}
 use Rattle.exact.proofs.Decide.{by-cases, eq-yes, eq-no}
 use Rattle.exact.proofs.Fill.{length-table, getD-table-const}
@@ -27,7 +27,7 @@ use Rattle.exact.proofs.Sign.{natAbs-add, back}
 use Rattle.exact.proofs.Sum.{sum-cong, pairs-cong, pairs-sums, S-zero, ind-yes, ind-no}
 use Rattle.matrix.specs.Place.{distance, place}
 use Rattle.tree.specs.Chain.{parentOf, partsPair, parts, lift, below}
-use Rattle.tree.specs.Cluster.{bitAt, mask, cluster}
+use Rattle.tree.specs.Cluster.{bitAt, mask}
 use Rattle.tree.proofs.Chains.{Below, bit, along, along-sym, parts-sym, below-true, below-root}
 use Rattle.tree.proofs.Masks.{mask-bit, mask-lt, masks-apart, bit-past}
 use Rattle.tree.proofs.Handing.{Handed, ownBits, hand-none, hand-more, own-done}
@@ -103,9 +103,9 @@ module _ {N K D : ℕ} {ds ps cs : List ℕ} {ns : List ℤ} (w : Ready N K D ds
       none : (i : ℕ) → entryOf ways i ≡ pos 0
       none i = ap (λ (l : List ℤ). entryOf l i) f ∙ getD-table-const 64 (pos 0) i
 
-  pub gather-end : (v : ℕ) (own ways : List ℤ) (come : List ℕ) → K ≤ v → Gathered N K D ds ps ns v own ways come
+  pub gather-end : {v : ℕ} {own ways : List ℤ} {come : List ℕ} → K ≤ v → Gathered N K D ds ps ns v own ways come
       → (u : ℕ) → u < K → under par own u ≡ pairs N (share N K D ds ps ns u)
-  gather-end v own ways come h g u l =
+  gather-end {v} h g u l =
       let e : v ≡ K = omega (arith, g .here) in
       g .entries u l ∙ pairs-cong N (λ p a b. ap (λ y. y *ℤ share N K D ds ps ns u p) (ind-yes (rw e (root p a b))) ∙ *ℤ-oneˡ (share N K D ds ps ns u p))
     where
@@ -139,7 +139,7 @@ module _ {N K D : ℕ} {ds ps cs : List ℕ} {ns : List ℤ} (w : Ready N K D ds
         (λ l. omega (arith, ap natAbs (rest-sym i j), ap natAbs (rest-left j i (omega arith)), remainder-range in-bounds (partsPair par) (j, i)))
 
     -- ---- one turn
-    module _ (v : ℕ) (own ways : List ℤ) (come : List ℕ) (g : Gathered N K D ds ps ns v own ways come) (edge : v < K) where
+    module _ {v : ℕ} {own ways : List ℤ} {come : List ℕ} (g : Gathered N K D ds ps ns v own ways come) (edge : v < K) where
       abbrev m : ℕ
       m = par v
 
@@ -197,7 +197,7 @@ module _ {N K D : ℕ} {ds ps cs : List ℕ} {ns : List ℤ} (w : Ready N K D ds
       pub turn-room : mass 126 own + 50200000000000 * (ones here * ones there) < 2 ^ 63
       turn-room = omega (arith, g .light, pairs-few, parent-low, up)
 
-      module _ (x : ℤ) (ex : x ≡ entryOf ns v) (ways′ : List ℤ) (c : Carried here x ways ways′) where
+      module _ {x : ℤ} (ex : x ≡ entryOf ns v) {ways′ : List ℤ} (c : Carried here x ways ways′) where
         low′ : (i : ℕ) → natAbs (entryOf ways′ i) ≤ suc v * 100000000000
         low′ i = omega (arith, ap natAbs (c .entries i), natAbs-add (entryOf ways i) (ind (bitAt here i) *ℤ x), chosen-abs (bitAt here i) x, ap natAbs ex, t .near v edge, g .low i)
 
@@ -252,9 +252,9 @@ module _ {N K D : ℕ} {ds ps cs : List ℕ} {ns : List ℤ} (w : Ready N K D ds
                 ≡ pairs N (λ p. (stands par v v (p .0) *ℤ stands par v m (p .1) +ℤ stands par v m (p .0) *ℤ stands par v v (p .1)) *ℤ share N K D ds ps ns u p)
             at-last = unfold below in pairs-cong N (λ p a _. ap (λ y. (stands par v v (p .0) *ℤ stands par v m (p .1) +ℤ stands par v m (p .0) *ℤ stands par v v (p .1)) *ℤ (ind (parts par u (p .0) (p .1)) *ℤ y)) (rest-left (p .0) (p .1) a))
 
-        pub gather-turn : (own′ : List ℤ) → Met N D ds ways′ here there m own own′
+        pub gather-turn : {own′ : List ℤ} → Met N D ds ways′ here there m own own′
             → Gathered N K D ds ps ns (v + 1) own′ ways′ (set come m (bitOr there here))
-        gather-turn own′ a = rw add-one (record {
+        gather-turn a = rw add-one (record {
           here = edge;
           size = a .size;
           long = c .size;

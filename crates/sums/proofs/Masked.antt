@@ -1,19 +1,15 @@
 -- Sums over the strains of a mask: one strain taken off, and the laws of sums.
-use mathlib.Core.Path.{_≡_, refl, sym, ap, ap₂, _∙_, subst}
-use mathlib.Core.Bool.{Bool, true, false, true≢false}
-use mathlib.Core.List.{List, [], _∷_}
-use mathlib.Core.Logic.{_≢_, _⊎_, inl, inr}
-use Prim.Native.Nat.{ℕ, zero, suc, _+_, _*_, _/_, _%_, _^_, _≤_, _<_}
-use native.Mathlib.Decide.{ℕ-discrete, decLt}
-use native.Mathlib.Nat.{zero-div}
+use mathlib.Core.Path.{_≡_, refl, sym, ap, _∙_}
+use mathlib.Core.Bool.{Bool, true, false}
+use mathlib.Core.List.{[], _∷_}
+use Prim.Native.Nat.{ℕ, _≤_}
 use native.Mathlib.Omega.{arith}
-use lib.Count.{ones}
 use lib.Dec.{eqb}
-use lib.IntN.{ℤ, pos, natAbs, _+ℤ_, _-ℤ_, _*ℤ_, zero-*ℤ, +ℤ-idr, +ℤ-idl}
+use lib.IntN.{ℤ, pos, natAbs, _+ℤ_, _*ℤ_, zero-*ℤ}
 use Rattle.exact.specs.Sum.{sum, ind}
-use Rattle.exact.proofs.Decide.{by-cases, eq-yes, eq-no}
+use Rattle.exact.proofs.Decide.{eq-yes}
 use Rattle.exact.proofs.Quote.{by-ring, quote}
-use Rattle.exact.proofs.Sum.{sum-cong, sum-cut, sum-+, sum-*, sum-at, sum-zero, ind-yes, ind-no}
+use Rattle.exact.proofs.Sum.{sum-cong, sum-cut, sum-+, sum-*, sum-at, sum-zero, ind-no}
 use Rattle.tree.specs.Cluster.{bitAt, mask}
 use Rattle.tree.proofs.Masks.{mask-bit, mask-lt, bit-past}
 use Rattle.sums.specs.declared.Low.{Low}

@@ -2,7 +2,7 @@
 use mathlib.Core.Path.{_≡_, refl, sym, ap, ap₂, _∙_}
 use mathlib.Core.Bool.{true}
 use mathlib.Core.List.{List, [], _∷_}
-use Prim.Native.Nat.{ℕ, suc, _+_, _*_, _<_, _≤_, _^_}
+use Prim.Native.Nat.{ℕ, _+_, _*_, _<_, _≤_, _^_}
 use native.Mathlib.Nat.{suc-mul}
 use native.Mathlib.Omega.{arith}
 use lib.Count.{ones}
@@ -30,12 +30,12 @@ pub record Joining (N D : ℕ) (ds : List ℕ) (ways : List ℤ) (here there m :
   pub entries : (par : ℕ → ℕ) (v : ℕ) → under par now v +ℤ over left (meeting N D ds ways there m par v)
       ≡ under par old v +ℤ over here (meeting N D ds ways there m par v)
 
-module _ (N D : ℕ) (ds : List ℕ) (ways : List ℤ) (here there m : ℕ) (old : List ℤ) where
+module _ {N D : ℕ} {ds : List ℕ} {ways : List ℤ} {here there m : ℕ} {old : List ℤ} where
   pub join-start : length old ≡ 126 → Joining N D ds ways here there m old here old
   join-start e = record { size = e; inside = λ j h. h; more = omega arith; entries = λ par v. refl }
 
-  pub join-end : (left : ℕ) (now : List ℤ) → left ≡ 0 → Joining N D ds ways here there m old left now → Met N D ds ways here there m old now
-  join-end left now e t = record {
+  pub join-end : {left : ℕ} {now : List ℤ} → left ≡ 0 → Joining N D ds ways here there m old left now → Met N D ds ways here there m old now
+  join-end {left} {now} e t = record {
     size = t .size;
     more = omega (arith, t .more);
     entries = λ par v. sym (ap (λ z. under par now v +ℤ z) (ap (λ (k : ℕ). over k (meeting N D ds ways there m par v)) e ∙ over-none (meeting N D ds ways there m par v)) ∙ +ℤ-idr (under par now v))
@@ -43,7 +43,7 @@ module _ (N D : ℕ) (ds : List ℕ) (ways : List ℤ) (here there m : ℕ) (old
   }
 
   module _ (apart : (j : ℕ) → bitAt here j ≡ true → Apart N D ds ways there j) (room : mass 126 old + 50200000000000 * (ones here * ones there) < 2 ^ 63)
-      (left : ℕ) (now : List ℤ) (t : Joining N D ds ways here there m old left now) (r : Low) (w : Lowest left r) where
+      {left : ℕ} {now : List ℤ} (t : Joining N D ds ways here there m old left now) {r : Low} (w : Lowest left r) where
     abbrev j : ℕ
     j = r .strain
 
@@ -56,7 +56,7 @@ module _ (N D : ℕ) (ds : List ℕ) (ways : List ℤ) (here there m : ℕ) (old
     pub join-room : mass 126 now + 50200000000000 * ones there < 2 ^ 63
     join-room = omega (arith, t .more, product, room)
 
-    module _ (x : ℤ) (mid : List ℤ) (p : Rowed N D ds ways there j x now mid) where
+    module _ {x : ℤ} {mid : List ℤ} (p : Rowed N D ds ways there j x now mid) where
       -- the row's sum as it is passed
       abbrev y : ℤ
       y = toZ w64 (ofZ w64 x)
@@ -76,8 +76,8 @@ module _ (N D : ℕ) (ds : List ℕ) (ways : List ℤ) (here there m : ℕ) (old
           (λ i. (bit par v i +ℤ bit par v j -ℤ pos 2 *ℤ bit par v m) *ℤ gap N D ds ways i j)
           (λ i _. by-ring (bit par v i ∷ bit par v j ∷ bit par v m ∷ gap N D ds ways i j ∷ []) (search quote depth 20) tt)
 
-      pub join-turn : (new : List ℤ) → Given j m y mid new → Joining N D ds ways here there m old (r .rest) new
-      join-turn new g = record {
+      pub join-turn : {new : List ℤ} → Given j m y mid new → Joining N D ds ways here there m old (r .rest) new
+      join-turn g = record {
         size = g .size;
         inside = λ k h. t .inside k (rest-in left r w k h);
         more = omega (arith, g .more, p .more, ap natAbs ey, t .more, product);

@@ -2,18 +2,15 @@
 use mathlib.Core.Path.{_≡_, refl, sym, ap, ap₂, _∙_}
 use mathlib.Core.Bool.{true}
 use mathlib.Core.List.{List, [], _∷_}
-use Prim.Native.Nat.{ℕ, suc, _+_, _*_, _<_, _≤_, _^_}
+use Prim.Native.Nat.{ℕ, _+_, _*_, _<_, _≤_, _^_}
 use native.Mathlib.Omega.{arith}
 use lib.Count.{ones}
-use lib.IntN.{ℤ, pos, natAbs, _+ℤ_, _-ℤ_, _*ℤ_, +ℤ-idr, +ℤ-idl}
+use lib.IntN.{ℤ, pos, natAbs, _+ℤ_, _*ℤ_, +ℤ-idr, +ℤ-idl}
 use lib.ListN.{length}
 use mir.Syntax.{w64}
 use mir.Val.{SFits, toZ, ofZ}
-use mir.Facts.{toZ-ofZ}
-use Rattle.exact.specs.Sum.{ind}
 use Rattle.exact.proofs.Quote.{by-ring, quote}
 use Rattle.exact.proofs.Sign.{natAbs-add, fits-abs, back}
-use Rattle.tree.specs.Chain.{below}
 use Rattle.tree.specs.Cluster.{bitAt}
 use Rattle.tree.proofs.Chains.{bit}
 use Rattle.walk.specs.Standing.{entryOf}
@@ -32,7 +29,7 @@ pub record Rowing (N D : ℕ) (ds : List ℕ) (ways : List ℤ) (there j : ℕ) 
   pub entries : (par : ℕ → ℕ) (v : ℕ) → under par now v +ℤ over left (λ i. bit par v i *ℤ gap N D ds ways i j)
       ≡ under par old v +ℤ over there (λ i. bit par v i *ℤ gap N D ds ways i j)
 
-module _ (N D : ℕ) (ds : List ℕ) (ways : List ℤ) (there j : ℕ) (old : List ℤ) where
+module _ {N D : ℕ} {ds : List ℕ} {ways : List ℤ} {there j : ℕ} {old : List ℤ} where
   pub row-start : length old ≡ 126 → Rowing N D ds ways there j old there (pos 0) old
   row-start e = record {
     size = e;
@@ -42,8 +39,8 @@ module _ (N D : ℕ) (ds : List ℕ) (ways : List ℤ) (there j : ℕ) (old : Li
     entries = λ par v. refl;
   }
 
-  pub row-end : (left : ℕ) (whole : ℤ) (now : List ℤ) → left ≡ 0 → Rowing N D ds ways there j old left whole now → Rowed N D ds ways there j whole old now
-  row-end left whole now e t = record {
+  pub row-end : {left : ℕ} {whole : ℤ} {now : List ℤ} → left ≡ 0 → Rowing N D ds ways there j old left whole now → Rowed N D ds ways there j whole old now
+  row-end {left} {whole} {now} e t = record {
     size = t .size;
     whole = none whole (λ i. gap N D ds ways i j) ∙ t .total;
     more = omega (arith, t .more);
@@ -54,7 +51,7 @@ module _ (N D : ℕ) (ds : List ℕ) (ways : List ℤ) (there j : ℕ) (old : Li
       none y f = sym (ap (λ z. y +ℤ z) (ap (λ (m : ℕ). over m f) e ∙ over-none f) ∙ +ℤ-idr y)
 
   module _ (apart : Apart N D ds ways there j) (room : mass 126 old + 50200000000000 * ones there < 2 ^ 63)
-      (left : ℕ) (whole : ℤ) (now : List ℤ) (t : Rowing N D ds ways there j old left whole now) (r : Low) (w : Lowest left r) where
+      {left : ℕ} {whole : ℤ} {now : List ℤ} (t : Rowing N D ds ways there j old left whole now) {r : Low} (w : Lowest left r) where
     abbrev i : ℕ
     i = r .strain
 
@@ -65,7 +62,7 @@ module _ (N D : ℕ) (ds : List ℕ) (ways : List ℤ) (there j : ℕ) (old : Li
     gap-near : natAbs (gap N D ds ways i j) ≤ 12550000000000
     gap-near = apart .near i strain-in
 
-    module _ (x : ℤ) (ex : x ≡ gap N D ds ways i j) where
+    module _ {x : ℤ} (ex : x ≡ gap N D ds ways i j) where
       pub row-room : (natAbs (entryOf now i +ℤ x) < 2 ^ 63) × (natAbs (entryOf now i) < 2 ^ 63)
       row-room = put-room 126 now i x (omega (arith, w .within)) (omega (arith, ap natAbs ex, gap-near, t .more, w .fewer, room))
 
@@ -75,8 +72,8 @@ module _ (N D : ℕ) (ds : List ℕ) (ways : List ℤ) (there j : ℕ) (old : Li
       pub sum-fits : SFits w64 (whole +ℤ x)
       sum-fits = fits-abs (whole +ℤ x) sum-near
 
-      pub row-turn : (new : List ℤ) → Put i x now new → Rowing N D ds ways there j old (r .rest) (toZ w64 (ofZ w64 (whole +ℤ x))) new
-      row-turn new p = let s = back (whole +ℤ x) sum-near in record {
+      pub row-turn : {new : List ℤ} → Put i x now new → Rowing N D ds ways there j old (r .rest) (toZ w64 (ofZ w64 (whole +ℤ x))) new
+      row-turn {new} p = let s = back (whole +ℤ x) sum-near in record {
         size = p .size;
         inside = λ k h. t .inside k (rest-in left r w k h);
         total = ap₂ (λ y z. y +ℤ z) s refl ∙ ap (λ y. whole +ℤ y +ℤ over (r .rest) (λ k. gap N D ds ways k j)) ex

@@ -2,19 +2,19 @@
 -- both, and behind v a vertex is above both or above neither, as it is above the parent. So the path is the two ways up to here.
 use mathlib.Core.Path.{_≡_, refl, sym, ap, ap₂, _∙_}
 use mathlib.Core.Bool.{Bool, true, false, _&&_, and-false}
-use mathlib.Core.List.{List, [], _∷_}
+use mathlib.Core.List.{[], _∷_}
 use Prim.Native.Nat.{ℕ, zero, suc, _≤_, _<_}
 use native.Mathlib.Decide.{ℕ-discrete, decLt}
 use native.Mathlib.Omega.{arith}
 use lib.Dec.{eqb}
-use lib.IntN.{ℤ, pos, _+ℤ_, _-ℤ_, _*ℤ_, zero-*ℤ, *ℤ-zero, +ℤ-idr, +ℤ-idl}
+use lib.IntN.{ℤ, pos, _+ℤ_, _-ℤ_, _*ℤ_, zero-*ℤ}
 use Rattle.exact.specs.Sum.{sum, pairs, ind}
 use Rattle.exact.specs.LeastSquares.{path}
 use Rattle.exact.proofs.Decide.{by-cases, eq-yes, eq-no, eqb-sym}
 use Rattle.exact.proofs.Quote.{by-ring, quote}
-use Rattle.exact.proofs.Sum.{sum-suc, sum-cong, sum-cut, sum-+, sum-*, ind-yes, ind-no}
-use Rattle.tree.specs.Chain.{pass, lift, below, parts, partsPair}
-use Rattle.tree.proofs.Chains.{Below, Up, bit, along, below?, below-yes, below-no, below-step, not-below, lift-lift, parts-ind}
+use Rattle.exact.proofs.Sum.{sum-suc, sum-cong, sum-cut, sum-+, sum-*, ind-no}
+use Rattle.tree.specs.Chain.{pass, lift, below, parts}
+use Rattle.tree.proofs.Chains.{Below, Up, bit, along, below?, below-no, below-step, not-below, lift-lift, parts-ind}
 use Rattle.sums.specs.Meeting.{Meets}
 
 both-ind : (b c : Bool) → ind (b && c) ≡ ind b *ℤ ind c

@@ -1,4 +1,6 @@
-// Remainders, and their sums over the pairs that each edge parts: what the verdict asks for.
+// Remainders, and their sums over the pairs that each edge parts: what the verdict asks for. The sums
+// are made by the steps of Bryant and Waddell (document 000, algorithm FASTMTM); the equation numbers
+// at the steps are theirs.
 use matrix::Matrix;
 use tree::Tree;
 ghost use mathlib.Core.Path.{_≡_};
@@ -79,13 +81,15 @@ fn put(own: &mut [i64; Tree::MAX_VERTICES], k: usize, x: i64)
     own[k] = own[k] + x;
 }
 
-// Puts r at j, and takes it off twice at m.
+// Puts r, which strain j has left with those that it meets at m, at j, and takes it off twice at m.
 fn give(own: &mut [i64; Tree::MAX_VERTICES], j: usize, m: usize, r: i64)
     requires { ⌜ (length (now own) ≡ 126) × (j < 126) × (m < 126) ⌝ }
     requires { ⌜ mass 126 (now own) + 3 * natAbs r < 2 ^ 63 ⌝ }
     ensures { λ _. ⌜ Given j m r (now (own .entry)) (now (own .exit)) ⌝ }
 {
+    // equation 9: r is of j's row
     put(own, j, r);
+    // equations 10 and 14: what is between different children's clusters, twice
     put(own, m, 0 - r - r);
 }
 
@@ -177,6 +181,7 @@ fn row(
         let low = lowest(left);
         let i = low.strain;
         let r = gap(n, d, distances, ways, i, j);
+        // equation 9: r is of i's row too
         put(own, i, r);
         whole = whole + r;
         left = low.rest;
@@ -184,9 +189,8 @@ fn row(
     whole
 }
 
-// The strains that come up an edge meet those that stand at its upper end already, at vertex m. Each
-// pair has its remainder left: it counts in both strains' rows (equation 9), and twice it is what
-// m's edge has less than the edges below it (equations 10 and 14).
+// The strains that come up an edge meet those that stand at its upper end m already, which came from
+// m's other children.
 fn meet(
     n: usize,
     d: u32,
@@ -214,8 +218,8 @@ fn meet(
 }
 
 // One pass from the leaves up. At its turn an edge carries the strains below it to its parent, where
-// they meet those that came up before: every pair once, where its path turns. Then the shares below
-// an edge come to the remainders of the pairs that it parts.
+// they meet those that came before: every pair once, where its path turns. Then the shares below an
+// edge come to the remainders of the pairs that it parts.
 fn shares(
     n: usize,
     edges: usize,
@@ -246,7 +250,9 @@ fn shares(
     own
 }
 
-// Hands the shares up: each vertex has all that is below it when its turn comes.
+// Hands the shares up: each vertex has all that is below it when its turn comes. An outer edge has its
+// strain's row (equation 9); an inner edge what its children's edges have, less twice what met at its
+// lower end (equation 14, and 10 where there are two children).
 fn handed_up(
     edges: usize,
     parents: &[u8; Tree::MAX_EDGES],
@@ -267,8 +273,9 @@ fn handed_up(
     sums
 }
 
-// For each edge the remainders added over the pairs that it parts. Each pair is met once, and one
-// climb finds where its two strains meet.
+// For each edge the remainders added over the pairs that it parts: the rows of the strains, and what
+// meets at each vertex (`shares`), then edge by edge from the leaves up (`handed_up`). Each pair is
+// touched once, so the whole is quadratic in n.
 pub fn edge_sums(
     n: usize,
     edges: usize,

@@ -18,7 +18,7 @@ abbrev μ-loop : tie.MeasureT-loop
 μ-loop ways₀ here x left₀ ways left = left
 
 loop-holds : tie.Need-loop-holds Inv-loop μ-loop
-loop-holds c = carry-start (c .args .here) _ (c .args .ways .now) (c .pre .0)
+loop-holds c = carry-start (c .pre .0)
 
 lowest-requires : tie.Need-lowest-requires Inv-loop μ-loop
 lowest-requires c κs = c .loop-test .taken
@@ -36,7 +36,7 @@ near c = let p = c .before .before .before .before in omega (arith, ap natAbs (t
 add-ways : tie.Need-add-ways Inv-loop μ-loop
 add-ways c = let l = c .before .before .before in
     let p = l .before in
-    carry-fits (p .args .here) _ (p .args .ways .now) (l .loop .left) (l .loop .ways) (l .loop .inv) (p .pre .1 .0) (near c) (c .before .lowest .result) (c .before .lowest .ensures)
+    carry-fits (l .loop .inv) (p .pre .1 .0) (near c) (c .before .lowest .ensures)
 
 mul-t13 : tie.Need-mul-t13 Inv-loop μ-loop
 mul-t13 c = omega (arith, c .before .lowest .ensures .within)
@@ -50,12 +50,12 @@ loop-less c = c .before .lowest .ensures .less
 loop-again : tie.Need-loop-again Inv-loop μ-loop
 loop-again c = let l = c .before .before .before in
     let p = l .before in
-    carry-turn (p .args .here) _ (p .args .ways .now) (l .loop .left) (l .loop .ways) (l .loop .inv) (p .pre .1 .0) (near c) (c .before .lowest .result) (c .before .lowest .ensures)
+    carry-turn (l .loop .inv) (p .pre .1 .0) (near c) (c .before .lowest .ensures)
 
 returns : tie.Need-returns Inv-loop μ-loop
 returns c = let p = c .before .before in
     subst (λ y. Carried (p .args .here) y (p .args .ways .now) (c .before .loop .ways)) (toZ-ofZ (p .fits .x))
-    (carry-end (p .args .here) _ (p .args .ways .now) (c .before .loop .left) (c .before .loop .ways) (c .loop-test .left) (c .before .loop .inv))
+    (carry-end (c .loop-test .left) (c .before .loop .inv))
 
 pub carry-spec : {M : Type 1} → statement M
 carry-spec =

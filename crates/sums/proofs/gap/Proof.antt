@@ -1,5 +1,4 @@
 -- `gap`: every step fits, and the last is what the pair has left.
-use mathlib.Core.Path.{_≡_}
 use Prim.Native.Nat.{_<_}
 use native.Mathlib.Omega.{arith}
 use borrow.Author.Needs.{needs}

@@ -1,11 +1,10 @@
 -- `lowest`: the count of zeros below the lowest digit is its place.
-use mathlib.Core.Path.{_≡_, refl, sym, ap, _∙_, subst}
+use mathlib.Core.Path.{_≡_, sym, subst}
 use Prim.Native.Nat.{ℕ, _-_, _*_, _%_, _^_}
 use native.Mathlib.Omega.{arith}
 use lib.Count.{trailingZeros}
 use lib.Pow.{pow-pos}
 use Rattle.tree.proofs.Masks.{shl-one}
-use Rattle.sums.specs.declared.Low.{Low}
 use Rattle.sums.specs.Meeting.{Lowest}
 use Rattle.sums.proofs.Digits.{Lows, low-trailing}
 use Rattle.sums.proofs.lowest.Statement.{statement}

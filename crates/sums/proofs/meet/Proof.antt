@@ -11,7 +11,7 @@ abbrev μ-loop : tie.MeasureT-loop
 μ-loop n d distances ways here there m own₀ left₀ own left = left
 
 loop-holds : tie.Need-loop-holds Inv-loop μ-loop
-loop-holds c = join-start _ _ _ _ _ _ _ _ (c .pre .1 .1 .0 .0)
+loop-holds c = join-start (c .pre .1 .1 .0 .0)
 
 lowest-requires : tie.Need-lowest-requires Inv-loop μ-loop
 lowest-requires c κs = c .loop-test .taken
@@ -20,7 +20,7 @@ row-requires : tie.Need-row-requires Inv-loop μ-loop
 row-requires c κs = let l = c .before .before .before in
     let p = l .before in
     let low = c .before .lowest in
-    (p .pre .0, (join-apart (p .args .n) (p .args .d) (p .args .distances .now) (p .args .ways .now) (p .args .here) (p .args .there) (p .args .m) (p .args .own .now) (p .pre .1 .0) (p .pre .1 .1 .1) (l .loop .left) (l .loop .own) (l .loop .inv) (low .result) (low .ensures), (l .loop .inv .size, join-room (p .args .n) (p .args .d) (p .args .distances .now) (p .args .ways .now) (p .args .here) (p .args .there) (p .args .m) (p .args .own .now) (p .pre .1 .0) (p .pre .1 .1 .1) (l .loop .left) (l .loop .own) (l .loop .inv) (low .result) (low .ensures))))
+    (p .pre .0, (join-apart (p .pre .1 .0) (p .pre .1 .1 .1) (l .loop .inv) (low .ensures), (l .loop .inv .size, join-room (p .pre .1 .0) (p .pre .1 .1 .1) (l .loop .inv) (low .ensures))))
 
 give-requires : tie.Need-give-requires Inv-loop μ-loop
 give-requires c κs = let l = c .before .before .before .before .before in
@@ -28,7 +28,7 @@ give-requires c κs = let l = c .before .before .before .before .before in
     let low = c .before .before .before .lowest in
     let row = c .before .row in (
       (row .ensures .size, omega (arith, low .ensures .within), p .pre .1 .1 .0 .1),
-      give-room (p .args .n) (p .args .d) (p .args .distances .now) (p .args .ways .now) (p .args .here) (p .args .there) (p .args .m) (p .args .own .now) (p .pre .1 .0) (p .pre .1 .1 .1) (l .loop .left) (l .loop .own) (l .loop .inv) (low .result) (low .ensures) (row .result) (row .last .1 .1 .1 .1 .1 .1 .0) (row .ensures),
+      give-room (p .pre .1 .0) (p .pre .1 .1 .1) (l .loop .inv) (low .ensures) (row .ensures),
     )
 
 loop-less : tie.Need-loop-less Inv-loop μ-loop
@@ -39,10 +39,10 @@ loop-again c = let l = c .before .before .before .before .before .before in
     let p = l .before in
     let low = c .before .before .before .before .lowest in
     let row = c .before .before .row in
-    join-turn (p .args .n) (p .args .d) (p .args .distances .now) (p .args .ways .now) (p .args .here) (p .args .there) (p .args .m) (p .args .own .now) (p .pre .1 .0) (p .pre .1 .1 .1) (l .loop .left) (l .loop .own) (l .loop .inv) (low .result) (low .ensures) (row .result) (row .last .1 .1 .1 .1 .1 .1 .0) (row .ensures) (c .give .last .0) (c .give .ensures)
+    join-turn (p .pre .1 .0) (p .pre .1 .1 .1) (l .loop .inv) (low .ensures) (row .ensures) (c .give .ensures)
 
 returns : tie.Need-returns Inv-loop μ-loop
-returns c = join-end _ _ _ _ _ _ _ _ (c .before .loop .left) (c .before .loop .own) (c .loop-test .left) (c .before .loop .inv)
+returns c = join-end (c .loop-test .left) (c .before .loop .inv)
 
 pub meet-spec : {M : Type 1} → statement M
 meet-spec =

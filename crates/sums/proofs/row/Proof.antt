@@ -17,7 +17,7 @@ abbrev μ-loop : tie.MeasureT-loop
 μ-loop n d distances ways there j own₀ whole₀ left₀ own whole left = left
 
 loop-holds : tie.Need-loop-holds Inv-loop μ-loop
-loop-holds c = row-start _ _ _ _ _ _ _ (c .pre .1 .1 .0)
+loop-holds c = row-start (c .pre .1 .1 .0)
 
 lowest-requires : tie.Need-lowest-requires Inv-loop μ-loop
 lowest-requires c κs = c .loop-test .taken
@@ -25,7 +25,7 @@ lowest-requires c κs = c .loop-test .taken
 gap-requires : tie.Need-gap-requires Inv-loop μ-loop
 gap-requires c κs = let l = c .before .before in
     let p = l .before in
-    (p .pre .0, p .pre .1 .0 .strains _ (strain-in (p .args .n) (p .args .d) (p .args .distances .now) (p .args .ways .now) (p .args .there) (p .args .j) (p .args .own .now) (p .pre .1 .0) (p .pre .1 .1 .1) (l .loop .left) _ (l .loop .own) (l .loop .inv) (c .lowest .result) (c .lowest .ensures)))
+    (p .pre .0, p .pre .1 .0 .strains _ (strain-in (p .pre .1 .0) (p .pre .1 .1 .1) (l .loop .inv) (c .lowest .ensures)))
 
 -- the number that is put
 told : (c : tie.After-gap Inv-loop μ-loop) → let l = c .before .before .before in let a = l .before .args in
@@ -33,7 +33,7 @@ told : (c : tie.After-gap Inv-loop μ-loop) → let l = c .before .before .befor
 told c = let l = c .before .before .before in
     let p = l .before in
     let low = c .before .lowest in
-    let apart = p .pre .1 .0 .strains _ (strain-in (p .args .n) (p .args .d) (p .args .distances .now) (p .args .ways .now) (p .args .there) (p .args .j) (p .args .own .now) (p .pre .1 .0) (p .pre .1 .1 .1) (l .loop .left) _ (l .loop .own) (l .loop .inv) (low .result) (low .ensures)) in
+    let apart = p .pre .1 .0 .strains _ (strain-in (p .pre .1 .0) (p .pre .1 .1 .1) (l .loop .inv) (low .ensures)) in
     rw (c .gap .ensures) (toZ-ofZ (gap-fits (p .pre .0) (low .result .strain) (p .args .j) (apart .0) (apart .1) (apart .2)))
 
 put-requires : tie.Need-put-requires Inv-loop μ-loop
@@ -41,14 +41,14 @@ put-requires c κs = let l = c .before .before .before .before in
     let p = l .before in
     let low = c .before .before .lowest in (
       (l .loop .inv .size, omega (arith, low .ensures .within)),
-      row-room (p .args .n) (p .args .d) (p .args .distances .now) (p .args .ways .now) (p .args .there) (p .args .j) (p .args .own .now) (p .pre .1 .0) (p .pre .1 .1 .1) (l .loop .left) _ (l .loop .own) (l .loop .inv) (low .result) (low .ensures) _ (told (c .before)),
+      row-room (p .pre .1 .0) (p .pre .1 .1 .1) (l .loop .inv) (low .ensures) (told (c .before)),
     )
 
 add-whole : tie.Need-add-whole Inv-loop μ-loop
 add-whole c = let l = c .before .before .before .before .before in
     let p = l .before in
     let low = c .before .before .before .lowest in
-    sum-fits (p .args .n) (p .args .d) (p .args .distances .now) (p .args .ways .now) (p .args .there) (p .args .j) (p .args .own .now) (p .pre .1 .0) (p .pre .1 .1 .1) (l .loop .left) _ (l .loop .own) (l .loop .inv) (low .result) (low .ensures) _ (told (c .before .before))
+    sum-fits (p .pre .1 .0) (p .pre .1 .1 .1) (l .loop .inv) (low .ensures) (told (c .before .before))
 
 loop-less : tie.Need-loop-less Inv-loop μ-loop
 loop-less c = c .before .before .before .lowest .ensures .less
@@ -57,11 +57,10 @@ loop-again : tie.Need-loop-again Inv-loop μ-loop
 loop-again c = let l = c .before .before .before .before .before in
     let p = l .before in
     let low = c .before .before .before .lowest in
-    row-turn (p .args .n) (p .args .d) (p .args .distances .now) (p .args .ways .now) (p .args .there) (p .args .j) (p .args .own .now) (p .pre .1 .0) (p .pre .1 .1 .1) (l .loop .left) _ (l .loop .own) (l .loop .inv) (low .result) (low .ensures) _ (told (c .before .before)) (c .put .last .0) (c .put .ensures)
+    row-turn (p .pre .1 .0) (p .pre .1 .1 .1) (l .loop .inv) (low .ensures) (told (c .before .before)) (c .put .ensures)
 
 returns : tie.Need-returns Inv-loop μ-loop
-returns c = let p = c .before .before in
-    row-end (p .args .n) (p .args .d) (p .args .distances .now) (p .args .ways .now) (p .args .there) (p .args .j) (p .args .own .now) (c .before .loop .left) _ (c .before .loop .own) (c .loop-test .left) (c .before .loop .inv)
+returns c = row-end (c .loop-test .left) (c .before .loop .inv)
 
 pub row-spec : {M : Type 1} → statement M
 row-spec =

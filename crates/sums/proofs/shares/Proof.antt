@@ -1,14 +1,7 @@
 -- `shares`: one edge a turn, whose strains are carried to its parent and meet those that are there.
-use mathlib.Core.Path.{_≡_, ap}
-use Prim.Native.Nat.{_-_, _≤_}
+use Prim.Native.Nat.{_-_}
 use native.Mathlib.Omega.{arith}
 use borrow.Author.Needs.{needs}
-use lib.IntN.{natAbs}
-use mir.Syntax.{w64}
-use mir.Val.{toZ, ofZ}
-use Rattle.exact.proofs.Sign.{back}
-use Rattle.tree.specs.Chain.{parentOf}
-use Rattle.walk.specs.Standing.{entryOf}
 use Rattle.sums.proofs.Gathering.{Gathered, gather-start, gather-end, few-edges, parent-low, numerator-back, numerator-low, ways-low, turn-room, carrying, all-apart, gather-turn}
 use Rattle.sums.proofs.shares.Statement.{statement}
 use Rattle.sums.proofs.shares.Tie as tie
@@ -41,13 +34,22 @@ element-copy-out-m : tie.Need-element-copy-out-m Inv-loop μ-loop
 element-copy-out-m c = omega (arith, c .before .loop-test .taken, few-edges (c .before .before .before .before .before .before .pre .0))
 
 cast-m : tie.Need-cast-m Inv-loop μ-loop
-cast-m c = omega (arith, parent-low (c .before .before .before .before .before .before .before .pre .0) (c .before .before .before .before .before .before .before .pre .1) (c .before .before .before .loop .v) (c .before .before .before .loop .own) (c .before .before .before .loop .ways) (c .before .before .before .loop .come) (c .before .before .before .loop .inv) (c .before .before .loop-test .taken))
+cast-m c = let l = c .before .before .before in
+    let p = l .before .before .before .before in
+    let edge = c .before .before .loop-test .taken in
+    omega (arith, parent-low (p .pre .0) (p .pre .1) (l .loop .inv) edge)
 
 mul-there : tie.Need-mul-there Inv-loop μ-loop
-mul-there c = omega (arith, parent-low (c .before .before .before .before .before .before .before .pre .0) (c .before .before .before .before .before .before .before .pre .1) (c .before .before .before .loop .v) (c .before .before .before .loop .own) (c .before .before .before .loop .ways) (c .before .before .before .loop .come) (c .before .before .before .loop .inv) (c .before .before .loop-test .taken))
+mul-there c = let l = c .before .before .before in
+    let p = l .before .before .before .before in
+    let edge = c .before .before .loop-test .taken in
+    omega (arith, parent-low (p .pre .0) (p .pre .1) (l .loop .inv) edge)
 
 array-read-there : tie.Need-array-read-there Inv-loop μ-loop
-array-read-there c = omega (arith, parent-low (c .before .before .before .before .before .before .before .pre .0) (c .before .before .before .before .before .before .before .pre .1) (c .before .before .before .loop .v) (c .before .before .before .loop .own) (c .before .before .before .loop .ways) (c .before .before .before .loop .come) (c .before .before .before .loop .inv) (c .before .before .loop-test .taken))
+array-read-there c = let l = c .before .before .before in
+    let p = l .before .before .before .before in
+    let edge = c .before .before .loop-test .taken in
+    omega (arith, parent-low (p .pre .0) (p .pre .1) (l .loop .inv) edge)
 
 mul-carry : tie.Need-mul-carry Inv-loop μ-loop
 mul-carry c = omega (arith, c .before .before .before .loop-test .taken, few-edges (c .before .before .before .before .before .before .before .before .pre .0))
@@ -56,16 +58,32 @@ element-copy-out-carry : tie.Need-element-copy-out-carry Inv-loop μ-loop
 element-copy-out-carry c = omega (arith, c .before .before .before .loop-test .taken, few-edges (c .before .before .before .before .before .before .before .before .pre .0))
 
 carry-requires : tie.Need-carry-requires Inv-loop μ-loop
-carry-requires c κs = (c .before .before .before .before .before .loop .inv .long, (ways-low (c .before .before .before .before .before .before .before .before .before .pre .0) (c .before .before .before .before .before .before .before .before .before .pre .1) (c .before .before .before .before .before .loop .v) (c .before .before .before .before .before .loop .own) (c .before .before .before .before .before .loop .ways) (c .before .before .before .before .before .loop .come) (c .before .before .before .before .before .loop .inv) (c .before .before .before .before .loop-test .taken), numerator-low (c .before .before .before .before .before .before .before .before .before .pre .0) (c .before .before .before .before .before .before .before .before .before .pre .1) (c .before .before .before .before .before .loop .v) (c .before .before .before .before .before .loop .own) (c .before .before .before .before .before .loop .ways) (c .before .before .before .before .before .loop .come) (c .before .before .before .before .before .loop .inv) (c .before .before .before .before .loop-test .taken)))
+carry-requires c κs = let l = c .before .before .before .before .before in
+    let p = l .before .before .before .before in
+    let edge = c .before .before .before .before .loop-test .taken in
+    (l .loop .inv .long, (ways-low (p .pre .0) (p .pre .1) (l .loop .inv) edge, numerator-low (p .pre .0) (p .pre .1) (l .loop .inv) edge))
 
 meet-requires : tie.Need-meet-requires Inv-loop μ-loop
-meet-requires c κs = (carrying (c .before .before .before .before .before .before .before .before .before .before .before .before .pre .0) (c .before .before .before .before .before .before .before .before .before .before .before .before .pre .1) (c .before .before .before .before .before .before .before .before .loop .v) (c .before .before .before .before .before .before .before .before .loop .own) (c .before .before .before .before .before .before .before .before .loop .ways) (c .before .before .before .before .before .before .before .before .loop .come) (c .before .before .before .before .before .before .before .before .loop .inv) (c .before .before .before .before .before .before .before .loop-test .taken) _ (numerator-back (c .before .before .before .before .before .before .before .before .before .before .before .before .pre .0) (c .before .before .before .before .before .before .before .before .before .before .before .before .pre .1) (c .before .before .before .before .before .before .before .before .loop .v) (c .before .before .before .before .before .before .before .before .loop .own) (c .before .before .before .before .before .before .before .before .loop .ways) (c .before .before .before .before .before .before .before .before .loop .come) (c .before .before .before .before .before .before .before .before .loop .inv) (c .before .before .before .before .before .before .before .loop-test .taken)) (c .before .before .carry .last .0) (c .before .before .carry .ensures), (all-apart (c .before .before .before .before .before .before .before .before .before .before .before .before .pre .0) (c .before .before .before .before .before .before .before .before .before .before .before .before .pre .1) (c .before .before .before .before .before .before .before .before .loop .v) (c .before .before .before .before .before .before .before .before .loop .own) (c .before .before .before .before .before .before .before .before .loop .ways) (c .before .before .before .before .before .before .before .before .loop .come) (c .before .before .before .before .before .before .before .before .loop .inv) (c .before .before .before .before .before .before .before .loop-test .taken) _ (numerator-back (c .before .before .before .before .before .before .before .before .before .before .before .before .pre .0) (c .before .before .before .before .before .before .before .before .before .before .before .before .pre .1) (c .before .before .before .before .before .before .before .before .loop .v) (c .before .before .before .before .before .before .before .before .loop .own) (c .before .before .before .before .before .before .before .before .loop .ways) (c .before .before .before .before .before .before .before .before .loop .come) (c .before .before .before .before .before .before .before .before .loop .inv) (c .before .before .before .before .before .before .before .loop-test .taken)) (c .before .before .carry .last .0) (c .before .before .carry .ensures), ((c .before .before .before .before .before .before .before .before .loop .inv .size, omega (arith, parent-low (c .before .before .before .before .before .before .before .before .before .before .before .before .pre .0) (c .before .before .before .before .before .before .before .before .before .before .before .before .pre .1) (c .before .before .before .before .before .before .before .before .loop .v) (c .before .before .before .before .before .before .before .before .loop .own) (c .before .before .before .before .before .before .before .before .loop .ways) (c .before .before .before .before .before .before .before .before .loop .come) (c .before .before .before .before .before .before .before .before .loop .inv) (c .before .before .before .before .before .before .before .loop-test .taken))), turn-room (c .before .before .before .before .before .before .before .before .before .before .before .before .pre .0) (c .before .before .before .before .before .before .before .before .before .before .before .before .pre .1) (c .before .before .before .before .before .before .before .before .loop .v) (c .before .before .before .before .before .before .before .before .loop .own) (c .before .before .before .before .before .before .before .before .loop .ways) (c .before .before .before .before .before .before .before .before .loop .come) (c .before .before .before .before .before .before .before .before .loop .inv) (c .before .before .before .before .before .before .before .loop-test .taken))))
+meet-requires c κs = let l = c .before .before .before .before .before .before .before .before in
+    let p = l .before .before .before .before in
+    let edge = c .before .before .before .before .before .before .before .loop-test .taken in
+    let turn = numerator-back (p .pre .0) (p .pre .1) (l .loop .inv) edge in
+    let come = c .before .before .carry .ensures in (
+      carrying (p .pre .0) (p .pre .1) (l .loop .inv) edge turn come,
+      (all-apart (p .pre .0) (p .pre .1) (l .loop .inv) edge turn come, ((l .loop .inv .size, omega (arith, parent-low (p .pre .0) (p .pre .1) (l .loop .inv) edge)), turn-room (p .pre .0) (p .pre .1) (l .loop .inv) edge)),
+    )
 
 mul-come : tie.Need-mul-come Inv-loop μ-loop
-mul-come c = omega (arith, parent-low (c .before .before .before .before .before .before .before .before .before .before .before .before .before .pre .0) (c .before .before .before .before .before .before .before .before .before .before .before .before .before .pre .1) (c .before .before .before .before .before .before .before .before .before .loop .v) (c .before .before .before .before .before .before .before .before .before .loop .own) (c .before .before .before .before .before .before .before .before .before .loop .ways) (c .before .before .before .before .before .before .before .before .before .loop .come) (c .before .before .before .before .before .before .before .before .before .loop .inv) (c .before .before .before .before .before .before .before .before .loop-test .taken))
+mul-come c = let l = c .before .before .before .before .before .before .before .before .before in
+    let p = l .before .before .before .before in
+    let edge = c .before .before .before .before .before .before .before .before .loop-test .taken in
+    omega (arith, parent-low (p .pre .0) (p .pre .1) (l .loop .inv) edge)
 
 array-write-come : tie.Need-array-write-come Inv-loop μ-loop
-array-write-come c = omega (arith, parent-low (c .before .before .before .before .before .before .before .before .before .before .before .before .before .pre .0) (c .before .before .before .before .before .before .before .before .before .before .before .before .before .pre .1) (c .before .before .before .before .before .before .before .before .before .loop .v) (c .before .before .before .before .before .before .before .before .before .loop .own) (c .before .before .before .before .before .before .before .before .before .loop .ways) (c .before .before .before .before .before .before .before .before .before .loop .come) (c .before .before .before .before .before .before .before .before .before .loop .inv) (c .before .before .before .before .before .before .before .before .loop-test .taken))
+array-write-come c = let l = c .before .before .before .before .before .before .before .before .before in
+    let p = l .before .before .before .before in
+    let edge = c .before .before .before .before .before .before .before .before .loop-test .taken in
+    omega (arith, parent-low (p .pre .0) (p .pre .1) (l .loop .inv) edge)
 
 add-v : tie.Need-add-v Inv-loop μ-loop
 add-v c = omega (arith, c .before .before .before .before .before .before .before .before .loop-test .taken, few-edges (c .before .before .before .before .before .before .before .before .before .before .before .before .before .pre .0))
@@ -74,12 +92,15 @@ loop-less : tie.Need-loop-less Inv-loop μ-loop
 loop-less c = omega (arith, c .before .before .before .before .before .before .before .before .loop-test .taken)
 
 loop-again : tie.Need-loop-again Inv-loop μ-loop
-loop-again c = gather-turn (c .before .before .before .before .before .before .before .before .before .before .before .before .before .pre .0) (c .before .before .before .before .before .before .before .before .before .before .before .before .before .pre .1) (c .before .before .before .before .before .before .before .before .before .loop .v) (c .before .before .before .before .before .before .before .before .before .loop .own) (c .before .before .before .before .before .before .before .before .before .loop .ways) (c .before .before .before .before .before .before .before .before .before .loop .come) (c .before .before .before .before .before .before .before .before .before .loop .inv) (c .before .before .before .before .before .before .before .before .loop-test .taken) _ (numerator-back (c .before .before .before .before .before .before .before .before .before .before .before .before .before .pre .0) (c .before .before .before .before .before .before .before .before .before .before .before .before .before .pre .1) (c .before .before .before .before .before .before .before .before .before .loop .v) (c .before .before .before .before .before .before .before .before .before .loop .own) (c .before .before .before .before .before .before .before .before .before .loop .ways) (c .before .before .before .before .before .before .before .before .before .loop .come) (c .before .before .before .before .before .before .before .before .before .loop .inv) (c .before .before .before .before .before .before .before .before .loop-test .taken)) (c .before .before .before .carry .last .0) (c .before .before .before .carry .ensures) (c .meet .last .1 .1 .1 .1 .1 .1 .1 .0) (c .meet .ensures)
+loop-again c = let l = c .before .before .before .before .before .before .before .before .before in
+    let p = l .before .before .before .before in
+    let edge = c .before .before .before .before .before .before .before .before .loop-test .taken in
+    gather-turn (p .pre .0) (p .pre .1) (l .loop .inv) edge (numerator-back (p .pre .0) (p .pre .1) (l .loop .inv) edge) (c .before .before .before .carry .ensures) (c .meet .ensures)
 
 returns : tie.Need-returns Inv-loop μ-loop
 returns c = let g = c .before .loop .inv in
     let w = c .before .before .before .before .before .pre .0 in
-    ((g .size, omega (arith, g .light, g .here, few-edges w)), gather-end w _ _ _ _ (c .loop-test .left) g)
+    ((g .size, omega (arith, g .light, g .here, few-edges w)), gather-end w (c .loop-test .left) g)
 
 pub shares-spec : {M : Type 1} → statement M
 shares-spec =
