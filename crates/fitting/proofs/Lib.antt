@@ -13,3 +13,4 @@ pub mod Settled
 pub mod Reporting
 pub mod Reports
 pub mod OneReport
+pub mod Steps

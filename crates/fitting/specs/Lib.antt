@@ -4,3 +4,4 @@ pub mod Stands
 pub mod Figures
 pub mod Answers
 pub mod Ready
+pub mod Steps
