@@ -1,0 +1,5 @@
+pub mod Fraction
+pub mod Children
+pub mod Averages
+pub mod Formula
+pub mod Splits
