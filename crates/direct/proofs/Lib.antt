@@ -1,1 +1,6 @@
 pub mod Children
+pub mod Quartet
+pub mod Star
+pub mod Crossing
+pub mod Sets
+pub mod Resolved
