@@ -4,3 +4,4 @@ pub mod Star
 pub mod Crossing
 pub mod Sets
 pub mod Resolved
+pub mod Values

@@ -1,9 +1,9 @@
 -- The sets of strains about a vertex of degree three, as weights 0 and 1: below each of its children, and below neither of two. Laws:
 -- `two-kids`, `three-kids`: a cluster is its two children's, all strains are the root's three;
 -- `other-is`: the sibling is another edge under one parent; `own`, `own-size`: a strain's cluster is itself;
--- `bit-pos`, `rest-pos`: no direction is empty; `beyond`: what is not below an edge, seen from either end.
+-- `neither-rest`: the strains below neither of two siblings; `bit-pos`, `rest-pos`: no direction is empty; `beyond`: what is not below an edge, seen from either end.
 use mathlib.Core.Path.{_≡_, refl, sym, _∙_, ap, ap₂, subst}
-use mathlib.Core.Bool.{Bool, true, false}
+use mathlib.Core.Bool.{Bool, true, false, not, _&&_}
 use mathlib.Core.Logic.{_≢_, _⊎_, inl, inr}
 use mathlib.Core.List.{[], _∷_}
 use Prim.Native.Nat.{ℕ, zero, suc, _≤_, _<_}
@@ -20,8 +20,9 @@ use Rattle.exact.specs.Sum.{sum, ind}
 use Rattle.exact.proofs.Sum.{sum-cong, sum-+, sum-at, sum-zero, sum-nn, ind-yes, ind-no, ind-nn}
 use Rattle.tree.specs.Chain.{below, kid}
 use Rattle.tree.specs.Allowed.{Allowed}
-use Rattle.tree.proofs.Chains.{Below, bit, partition, children, below?, below-yes, below-no, below-root}
+use Rattle.tree.proofs.Chains.{Up, bit, partition, children, below-yes, below-no, below-true, below-root}
 use Rattle.tree.proofs.Strains.{leaf, siblings, third-way}
+use Rattle.direct.specs.Averages.{neither}
 use Rattle.direct.proofs.Children.{Degree3, Sibling}
 
 -- the strains below neither
@@ -31,6 +32,19 @@ rest par c s i = pos 1 -ℤ bit par c i -ℤ bit par s i
 -- in either order
 pub rest-swap : (par : ℕ → ℕ) (a b i : ℕ) → rest par a b i ≡ rest par b a i
 rest-swap par a b i = by-ring (bit par a i ∷ bit par b i ∷ []) (search quote depth 20) tt
+
+-- two tests that exclude each other, and neither
+neither-ind : (p q : Bool) → (p ≡ true → q ≡ true → ⊥) → ind (not p && not q) ≡ pos 1 -ℤ ind p -ℤ ind q
+unfolding ind
+neither-ind true true h = absurd (h refl refl)
+neither-ind true false h = refl
+neither-ind false true h = refl
+neither-ind false false h = refl
+
+-- no strain is below two siblings
+pub neither-rest : (par : ℕ → ℕ) (K : ℕ) → Up par K → (c s i : ℕ) → c < K → Sibling K par c s → ind (neither par c s i) ≡ rest par c s i
+neither-rest par K up c s i l h = neither-ind (below par i c) (below par i s)
+    (λ p q. siblings par K up s c i (h .edge) l (h .apart) (h .under) (below-true par i s q) (below-true par i c p))
 
 -- a sum of what is not negative, and 1 somewhere, is positive
 pub sum-pos : (n k : ℕ) (f : ℕ → ℤ) → ((i : ℕ) → i < n → pos 0 ≤ᶻ f i) → k < n → f k ≡ pos 1 → pos 0 <ᶻ sum n f
@@ -115,23 +129,9 @@ module _ (N K : ℕ) (par : ℕ → ℕ) (ok : Allowed N K par) (g : Degree3 N K
 
   pub rest-pos : (c : ℕ) → c < K → pos 0 <ᶻ sum N (rest par c (g .other c))
   rest-pos c l = let s = other-is c l in let (k, m, a, b) = third-way N K par ok c (g .other c) l (s .edge) (s .under) in
-      sum-pos N k (rest par c (g .other c)) (λ i h. nn i s) m (ap₂ (λ x y. pos 1 -ℤ x -ℤ y) (out c k a) (out (g .other c) k b))
-    where
-      out : (v i : ℕ) → (Below par i v → ⊥) → bit par v i ≡ pos 0
-      out v i n = ind-no (below-no par i v n)
-
-      inn : (v i : ℕ) → Below par i v → bit par v i ≡ pos 1
-      inn v i e = ind-yes (below-yes par i v e)
-
-      at : (i : ℕ) {x y : ℤ} → bit par c i ≡ x → bit par (g .other c) i ≡ y → pos 0 ≤ᶻ pos 1 -ℤ x -ℤ y → pos 0 ≤ᶻ rest par c (g .other c) i
-      at i e f h = rw (e, f) h
-
-      nn : (i : ℕ) → Sibling K par c (g .other c) → pos 0 ≤ᶻ rest par c (g .other c) i
-      nn i s = by-cases (below? par i c)
-          (λ e. at i (inn c i e) (out (g .other c) i (λ f. siblings par K (ok .up) (g .other c) c i (s .edge) l (s .apart) (s .under) f e)) (nn-pos 0))
-          (λ e. by-cases (below? par i (g .other c))
-          (λ f. at i (out c i e) (inn (g .other c) i f) (nn-pos 0))
-          (λ f. at i (out c i e) (out (g .other c) i f) (nn-pos 1)))
+      sum-pos N k (rest par c (g .other c))
+      (λ i h. subst (λ y. pos 0 ≤ᶻ y) (neither-rest par K (ok .up) c (g .other c) i l s) (ind-nn (neither par c (g .other c) i)))
+      m (ap₂ (λ x y. pos 1 -ℤ x -ℤ y) (ind-no (below-no par k c a)) (ind-no (below-no par k (g .other c) b)))
 
   -- ---- a strain's own edge
   pub own : (c i : ℕ) → c < N → bit par c i ≡ ind (eqb i c)
