@@ -5,3 +5,4 @@ pub mod Crossing
 pub mod Sets
 pub mod Resolved
 pub mod Values
+pub mod Sizes
