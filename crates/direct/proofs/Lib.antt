@@ -6,3 +6,4 @@ pub mod Sets
 pub mod Resolved
 pub mod Values
 pub mod Sizes
+pub mod Equations
