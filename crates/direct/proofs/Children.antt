@@ -4,8 +4,9 @@
 -- `child-apart`: children of different places differ;
 -- `degree3`: on a resolved tree every inner vertex has two children, the root a third, and there is no other;
 -- `sibling-is`: the sibling is another edge under the same parent;
--- `farther-is`: the edge farther on is the parent's own, or at the root a third child.
-use mathlib.Core.Path.{_≡_, refl, sym, _∙_, ap, subst}
+-- `farther-is`: the edge farther on is the parent's own, or at the root a third child;
+-- `inner-cases`, `root-cases`: the edges at a vertex in any order, from their order by number.
+use mathlib.Core.Path.{_≡_, refl, sym, _∙_, ap, subst, subst₂}
 use mathlib.Core.Bool.{Bool, true, false, cond, _&&_, and-false}
 use mathlib.Core.Logic.{_≢_, _⊎_, inl, inr}
 use Prim.Native.Nat.{ℕ, zero, suc, _+_, _≤_, _<_}
@@ -270,3 +271,27 @@ module _ (N K : ℕ) (par : ℕ → ℕ) (ok : Allowed N K par) (res : Resolved 
       neither-two : c ≢ childOf K par (par c) 0 → c ≢ childOf K par (par c) 1 → (c ≡ childOf K par (par c) 0) ⊎ (c ≡ childOf K par (par c) 1) → ⊥
       neither-two q r (inl e) = q e
       neither-two q r (inr e) = r e
+
+  -- what holds of each child of an inner vertex and the other holds of every edge under it and its sibling
+  pub inner-cases : (F : (c s : ℕ) → Type 0) (w : ℕ) → w < K → F (childOf K par w 0) (childOf K par w 1) → F (childOf K par w 1) (childOf K par w 0)
+      → (c : ℕ) → c < K → par c ≡ w → F c (sibling K par c)
+  inner-cases F w k f g c l e = go (only-two c l (omega arith))
+    where
+      go : (c ≡ childOf K par (par c) 0) ⊎ (c ≡ childOf K par (par c) 1) → F c (sibling K par c)
+      go (inl q) = subst₂ F (sym (q ∙ ap (λ y. childOf K par y 0) e)) (sym (sibling-first c q ∙ ap (λ y. childOf K par y 1) e)) f
+      go (inr q) = subst₂ F (sym (q ∙ ap (λ y. childOf K par y 1) e))
+          (sym (sibling-later c (λ z. apart-two (par c) (ok .inner c l) (ok .top c l) (sym z ∙ q)) ∙ ap (λ y. childOf K par y 0) e)) g
+
+  -- what holds of the root's three children holds of every edge under it, its sibling and the one farther on
+  pub root-cases : (F : (c s e : ℕ) → Type 0) → F (childOf K par K 0) (childOf K par K 1) (childOf K par K 2)
+      → F (childOf K par K 1) (childOf K par K 0) (childOf K par K 2) → F (childOf K par K 2) (childOf K par K 0) (childOf K par K 1)
+      → (c : ℕ) → c < K → par c ≡ K → F c (sibling K par c) (farther K par c)
+  root-cases F f₀ f₁ f₂ c l e = go (only-three c l e)
+    where
+      h : N ≤ K
+      h = omega (arith, ok .edges)
+
+      go : (c ≡ childOf K par K 0) ⊎ ((c ≡ childOf K par K 1) ⊎ (c ≡ childOf K par K 2)) → F c (sibling K par c) (farther K par c)
+      go (inl q) = rw (e, eq-yes q, eq-yes {a = K} {b = K} refl, q) f₀
+      go (inr (inl q)) = rw (e, eq-no {a = c} {b = childOf K par K 0} (λ z. apart-two K h (omega arith) (sym z ∙ q)), eq-yes q, eq-yes {a = K} {b = K} refl, q) f₁
+      go (inr (inr q)) = rw (e, eq-no {a = c} {b = childOf K par K 0} (λ z. apart-first (sym z ∙ q)), eq-no {a = c} {b = childOf K par K 1} (λ z. apart-second (sym z ∙ q)), q) f₂
