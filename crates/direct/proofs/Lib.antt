@@ -7,3 +7,4 @@ pub mod Resolved
 pub mod Values
 pub mod Sizes
 pub mod Equations
+pub mod BySplits
