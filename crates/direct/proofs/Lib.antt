@@ -8,3 +8,4 @@ pub mod Values
 pub mod Sizes
 pub mod Equations
 pub mod BySplits
+pub mod Ranges

@@ -1,7 +1,7 @@
 -- How many strains the sets about an edge have, and the distances between them, as sums of weights 0 and 1. Laws:
 -- `size-sum`, `between-link`: sizes and sums between sets, from their weights;
 -- `size-count`: a cluster's size is a count; `size-neither`: what is below neither of two siblings is the rest;
--- `cluster-some`, `neither-some`: no set about an edge is empty; `own-one`: a strain's cluster has one strain;
+-- `cluster-some`, `neither-some`, `cluster-least`, `neither-least`: no set about an edge is empty; `own-one`: a strain's cluster has one strain;
 -- `outer-all`, `inner-all`: the sets about an edge are all the strains.
 use mathlib.Core.Path.{_≡_, refl, sym, _∙_, ap, ap₂, subst}
 use mathlib.Core.Bool.{Bool}
@@ -72,6 +72,13 @@ module _ (N K : ℕ) (par : ℕ → ℕ) (ok : Allowed N K par) (res : Resolved 
   unfolding degree3
   neither-some c l = subst (λ y. pos 0 <ᶻ y) (sym (size-rest N par K (ok .up) c (sibling K par c) l (sibling-is N K par ok res c l)))
       (rest-pos N K par ok (degree3 N K par ok res) c l)
+
+  -- so each has 1 or more
+  pub cluster-least : (v : ℕ) → v ≤ K → pos 1 ≤ᶻ size N (cluster par v)
+  cluster-least v h = <-is (cluster-some v h)
+
+  pub neither-least : (c : ℕ) → c < K → pos 1 ≤ᶻ size N (neither par c (sibling K par c))
+  neither-least c l = <-is (neither-some c l)
 
   -- a strain's cluster is the strain alone
   pub own-one : (c : ℕ) → c < N → size N (cluster par c) ≡ pos 1
