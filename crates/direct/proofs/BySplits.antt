@@ -12,12 +12,11 @@ use Prim.Native.Nat.{ℕ, _≤_, _<_}
 use native.Mathlib.Decide.{ℕ-discrete, decLt}
 use native.Mathlib.Omega.{arith}
 use borrow.Author.Tests.{lt-ltb, le-ltb}
-use lib.Dec.{ltb}
 use lib.IntN.{ℤ, pos, negsuc, _+ℤ_, _-ℤ_, _*ℤ_, +ℤ-comm}
 use Rattle.exact.proofs.Quote.{by-ring, quote, eq-by, z-sub, z*}
 use Rattle.exact.proofs.Decide.{by-cases}
 use Rattle.exact.specs.Order.{_<ᶻ_}
-use Rattle.exact.specs.Sum.{sum, ind}
+use Rattle.exact.specs.Sum.{ind}
 use Rattle.exact.proofs.Sum.{ind-not}
 use Rattle.tree.specs.Allowed.{Allowed}
 use Rattle.tree.proofs.Chains.{bit}

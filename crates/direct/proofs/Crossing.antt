@@ -1,25 +1,23 @@
 -- Sums over the pairs that an edge parts are sums between the two sides of the edge: each such pair once, from the strain below
 -- the edge to the strain that is not. Laws:
 -- `either-sym`: a distance is the same both ways; `pairs-cross`: the pairs of which one is in a set and one is not;
--- `split-cross`: a split sum is the distances between an edge's two sides; `twice-link`: what three split sums say of two directions.
+-- `split-cross`: a split sum is the distances between an edge's two sides; `cross-three`: and where those beyond are two sets.
 use mathlib.Core.Path.{_≡_, refl, sym, _∙_, ap, ap₂}
-use mathlib.Core.Bool.{Bool, true, false, cond}
 use mathlib.Core.List.{[], _∷_}
 use Prim.Native.Nat.{ℕ, zero, suc, _<_}
-use native.Mathlib.Decide.{ℕ-discrete, decLt}
+use native.Mathlib.Decide.{decLt}
 use native.Mathlib.Omega.{arith}
 use borrow.Author.Tests.{lt-ltb, le-ltb}
-use lib.Dec.{ltb}
-use lib.IntN.{ℤ, pos, negsuc, _+ℤ_, _-ℤ_, _*ℤ_}
+use lib.IntN.{ℤ, pos, _+ℤ_, _-ℤ_, _*ℤ_}
 use Rattle.exact.proofs.Quote.{by-ring, quote, eq-by, z-sub, z*}
 use Rattle.exact.proofs.Decide.{by-cases}
-use Rattle.exact.specs.Sum.{sum, pairs, ind}
+use Rattle.exact.specs.Sum.{sum, pairs}
 use Rattle.exact.proofs.Sum.{sum-cong, sum-+, pairs-cong, ind-sq}
-use Rattle.tree.specs.Chain.{below, partsPair}
+use Rattle.tree.specs.Chain.{below}
 use Rattle.tree.proofs.Chains.{bit, parts-ind}
 use Rattle.direct.specs.Averages.{either}
-use Rattle.direct.specs.Splits.{splitAt, twice}
-use Rattle.direct.proofs.Star.{Same, link, link-cong, link-sym, link-∪ʳ}
+use Rattle.direct.specs.Splits.{splitAt}
+use Rattle.direct.proofs.Star.{Same, link, link-cong, link-∪ʳ}
 
 -- a sum that is the same both ways, over the pairs that b parts
 pub pairs-cross : (n : ℕ) (b : ℕ → ℤ) (F : ℕ → ℕ → ℤ) → ((i : ℕ) → b i *ℤ b i ≡ b i) → ((i j : ℕ) → F i j ≡ F j i)

@@ -2,14 +2,14 @@
 -- paths between them (`edge-sides`); every such path goes by way of the edge's upper end, so the paths are those from each side to
 -- that end (`link-along`); and what these are is the law of three directions there, which the lengths meet (Resolved).
 -- `equations`: so over any common denominator the lengths in lowest terms, or in any other, are a fit.
-use mathlib.Core.Path.{_≡_, refl, sym, _∙_, ap, ap₂, subst}
+use mathlib.Core.Path.{_≡_, refl, sym, _∙_, ap, ap₂}
 use mathlib.Core.Bool.{Bool, true, false, cond}
 use mathlib.Core.List.{[], _∷_}
 use Prim.Native.Nat.{ℕ, _≤_, _<_}
 use native.Mathlib.Omega.{arith}
 use borrow.Author.Tests.{lt-ltb, le-ltb}
 use lib.Dec.{ltb}
-use lib.IntN.{ℤ, pos, negsuc, negℤ, _+ℤ_, _-ℤ_, _*ℤ_}
+use lib.IntN.{ℤ, pos, negℤ, _+ℤ_, _-ℤ_, _*ℤ_}
 use Rattle.exact.proofs.Quote.{by-ring, quote, z-sub}
 use Rattle.exact.proofs.Decide.{by-cases}
 use Rattle.exact.specs.Order.{_<ᶻ_}
@@ -21,7 +21,6 @@ use Rattle.tree.specs.Chain.{below, partsPair}
 use Rattle.tree.specs.Allowed.{Allowed}
 use Rattle.tree.proofs.Chains.{bit, along, along-sym, parts-ind, below?, below-yes, below-no}
 use Rattle.tree.proofs.Directions.{through}
-use Rattle.direct.specs.Fraction.{Fraction}
 use Rattle.direct.specs.Averages.{cluster, neither, size, either, between}
 use Rattle.direct.specs.Children.{Resolved, childOf, sibling}
 use Rattle.direct.specs.Formula.{outerAt, innerAt, edgeLength}

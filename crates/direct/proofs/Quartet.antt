@@ -3,9 +3,9 @@
 -- of a strain (`starOf`). The one idea: an edge's length by K11 (`edgeOf`) is what makes that law at one end of the edge give the
 -- same law at the other (`grow`), and the law in all three directions at a vertex gives an edge's equation (`meets`).
 -- Both laws are free of denominators: `IsStar` and `IsEdge` multiply them out.
-use mathlib.Core.Path.{_≡_, refl, sym, _∙_, ap, ap₂, subst}
-use mathlib.Core.List.{List, [], _∷_}
-use lib.IntN.{ℤ, pos, negsuc, negℤ, _+ℤ_, _-ℤ_, _*ℤ_}
+use mathlib.Core.Path.{_≡_, sym, _∙_, ap, ap₂}
+use mathlib.Core.List.{[], _∷_}
+use lib.IntN.{ℤ, pos, _+ℤ_, _-ℤ_, _*ℤ_}
 use Rattle.exact.proofs.Quote.{by-ring, quote, eq-by, z-sub, z+, z*}
 use Rattle.exact.specs.Order.{_<ᶻ_}
 use Rattle.exact.proofs.Order.{≤-antisym, ≤-of-≡, *-cancel, nn+, nn*, nn-pos, nn-sub, is-<, <-is, le-by}

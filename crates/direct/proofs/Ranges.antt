@@ -3,17 +3,17 @@
 -- distances less other averages. A bottom is a product of sizes that are 64 together. Laws:
 -- `between-nn`, `between-le`: the distances between two sets; `split-nn`, `split-le`: a split sum, at most 1,024 pairs of 50,000;
 -- `outer-within`, `inner-within`: a top against its bottom; `outer-some`, `outer-small`, `outer-bound`, `inner-some`, `inner-bound`: a bottom.
-use mathlib.Core.Path.{_≡_, refl, sym, _∙_, ap, subst}
+use mathlib.Core.Path.{_≡_, sym, _∙_, ap, subst}
 use mathlib.Core.Bool.{Bool, true, false, cond}
 use mathlib.Core.List.{[], _∷_}
 use Prim.Native.Nat.{ℕ, _≤_, _<_}
 use native.Mathlib.Omega.{arith}
 use lib.Dec.{ltb}
-use lib.IntN.{ℤ, pos, negℤ, _+ℤ_, _-ℤ_, _*ℤ_}
+use lib.IntN.{ℤ, pos, _+ℤ_, _-ℤ_, _*ℤ_}
 use Rattle.exact.proofs.Quote.{by-ring, quote}
 use Rattle.exact.specs.Order.{_≤ᶻ_, _<ᶻ_, Within}
-use Rattle.exact.proofs.Order.{nn+, nn*, nn-pos, nn-sq, nn-sub, le-by, ≤-trans, *-cancel, *-mono, <-is, is-<, pos-≤}
-use Rattle.exact.specs.Sum.{sum, pairs, ind}
+use Rattle.exact.proofs.Order.{nn+, nn*, nn-pos, nn-sq, nn-sub, le-by, ≤-trans, *-cancel, *-mono, <-is, pos-≤}
+use Rattle.exact.specs.Sum.{sum, ind}
 use Rattle.exact.proofs.Sum.{sum-cong, sum-*, sum-*ʳ, sum-nn, sum-mono, pairs-sums, S-mono, ind-nn}
 use Rattle.verdict.specs.Table.{count}
 use Rattle.tree.specs.Chain.{below, partsPair}

@@ -15,7 +15,7 @@ use Rattle.exact.proofs.Ring.{*ℤ-oneʳ, *ℤ-distribʳ}
 use Rattle.exact.proofs.Quote.{by-ring, quote, eq-by, z-sub, z*}
 use Rattle.exact.proofs.Decide.{by-cases, eq-yes, eq-no}
 use Rattle.exact.specs.Order.{_≤ᶻ_, _<ᶻ_}
-use Rattle.exact.proofs.Order.{nn+, nn-pos, nn-sub, le-by, is-<, <-is}
+use Rattle.exact.proofs.Order.{nn+, nn-sub, le-by, is-<, <-is}
 use Rattle.exact.specs.Sum.{sum, ind}
 use Rattle.exact.proofs.Sum.{sum-cong, sum-+, sum-at, sum-zero, sum-nn, ind-yes, ind-no, ind-nn}
 use Rattle.tree.specs.Chain.{below, kid}

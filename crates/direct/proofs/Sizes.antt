@@ -3,14 +3,14 @@
 -- `size-count`: a cluster's size is a count; `size-neither`: what is below neither of two siblings is the rest;
 -- `cluster-some`, `neither-some`, `cluster-least`, `neither-least`: no set about an edge is empty; `own-one`: a strain's cluster has one strain;
 -- `outer-all`, `inner-all`: the sets about an edge are all the strains.
-use mathlib.Core.Path.{_≡_, refl, sym, _∙_, ap, ap₂, subst}
+use mathlib.Core.Path.{_≡_, refl, sym, _∙_, ap₂, subst}
 use mathlib.Core.Bool.{Bool}
 use mathlib.Core.List.{[], _∷_}
 use Prim.Native.Nat.{ℕ, _≤_, _<_}
 use native.Mathlib.Omega.{arith}
-use lib.IntN.{ℤ, pos, negℤ, _+ℤ_, _-ℤ_, _*ℤ_}
+use lib.IntN.{ℤ, pos, negℤ, _+ℤ_, _-ℤ_}
 use Rattle.exact.proofs.Ring.{*ℤ-oneʳ}
-use Rattle.exact.proofs.Quote.{by-ring, quote, eq-by, z-sub}
+use Rattle.exact.proofs.Quote.{by-ring, quote}
 use Rattle.exact.specs.Order.{_≤ᶻ_, _<ᶻ_}
 use Rattle.exact.proofs.Order.{<-is}
 use Rattle.exact.specs.Sum.{sum, ind}
@@ -22,7 +22,7 @@ use Rattle.tree.proofs.Chains.{Up, bit}
 use Rattle.tree.proofs.Counts.{sum-count}
 use Rattle.direct.specs.Averages.{cluster, neither, size, either, between}
 use Rattle.direct.specs.Children.{Resolved, childOf, sibling}
-use Rattle.direct.proofs.Children.{Sibling, degree3, sibling-is, child₀, child₁}
+use Rattle.direct.proofs.Children.{Sibling, degree3, sibling-is}
 use Rattle.direct.proofs.Star.{Same, link, link-cong}
 use Rattle.direct.proofs.Sets.{rest, neither-rest, two-kids, bit-pos, rest-pos, own-size}
 

@@ -4,10 +4,10 @@
 -- `star-swap`, `edge-flip`, `three-12`, `three-23`, `three-cong`: the order of the sets is free;
 -- `over`: from the two sets at one end of an edge to what they are together at its other end;
 -- `three-meets`: an edge's equation from the three directions at its end.
-use mathlib.Core.Path.{_≡_, refl, sym, _∙_, ap, ap₂, subst}
-use mathlib.Core.List.{List, [], _∷_}
-use Prim.Native.Nat.{ℕ, zero, suc, _<_}
-use lib.IntN.{ℤ, pos, negsuc, negℤ, _+ℤ_, _-ℤ_, _*ℤ_}
+use mathlib.Core.Path.{_≡_, refl, sym, _∙_, ap, ap₂}
+use mathlib.Core.List.{[], _∷_}
+use Prim.Native.Nat.{ℕ, _<_}
+use lib.IntN.{ℤ, pos, _+ℤ_, _-ℤ_, _*ℤ_}
 use Rattle.exact.proofs.Ring.{*ℤ-distribʳ}
 use Rattle.exact.proofs.Quote.{by-ring, quote}
 use Rattle.exact.specs.Order.{_<ᶻ_}

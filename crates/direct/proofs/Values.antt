@@ -4,16 +4,16 @@
 -- `outer-value`, `outer-positive`: an outer length is `starOf` over twice the sizes' product;
 -- `inner-value`, `inner-positive`: an inner length is `edgeOf` over 2abcd(a + b)(c + d);
 -- `value-same`, `value-common`: the same value in lowest terms, and over a common denominator.
-use mathlib.Core.Path.{_≡_, refl, sym, _∙_, ap, ap₂}
+use mathlib.Core.Path.{_≡_, refl, sym, _∙_, ap}
 use mathlib.Core.Bool.{Bool}
 use mathlib.Core.List.{[], _∷_}
 use Prim.Native.Nat.{ℕ}
-use lib.IntN.{ℤ, pos, negsuc, negℤ, _+ℤ_, _-ℤ_, _*ℤ_}
+use lib.IntN.{ℤ, pos, negℤ, _+ℤ_, _-ℤ_, _*ℤ_}
 use Rattle.exact.proofs.Quote.{by-ring, quote, eq-by, z-sub, z+, z*}
 use Rattle.exact.specs.Order.{_<ᶻ_}
 use Rattle.direct.specs.Fraction.{Fraction, _over_, _⊕_, _⊖_, _⊗_, half}
-use Rattle.direct.specs.Averages.{size, between, average}
-use Rattle.direct.specs.Formula.{outerLength, weight, innerWith, innerLength}
+use Rattle.direct.specs.Averages.{size, between}
+use Rattle.direct.specs.Formula.{outerLength, weight, innerLength}
 use Rattle.direct.proofs.Quartet.{starOf, edgeOf, mul-cancel, pos*, pos+}
 
 -- f has the value p over q
