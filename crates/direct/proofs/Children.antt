@@ -18,6 +18,7 @@ use Rattle.verdict.specs.Table.{count}
 use Rattle.verdict.proofs.Table.{count-zero, count-suc}
 use Rattle.tree.specs.Chain.{kid}
 use Rattle.tree.specs.Allowed.{Allowed, children}
+use Rattle.tree.proofs.Strains.{kids≥2}
 use Rattle.direct.specs.Children.{childTo, childOf, sibling, thirdAt, farther, Resolved}
 
 -- ---- counts
@@ -151,15 +152,12 @@ module _ (N K : ℕ) (par : ℕ → ℕ) (ok : Allowed N K par) (res : Resolved 
   pub three-children : children K par K ≡ 3
   three-children = omega (arith, rw (eq-yes {a = K} {b = K} refl) at (res .three K (omega (arith, ok .edges)) (omega arith)))
 
-  -- an inner vertex has a child 0 and a child 1, the root a child 2
-  more : (w : ℕ) → N ≤ w → w ≤ K → 2 ≤ children K par w
-  more w h k = by-cases (ℕ-discrete w K) (λ e. subst (λ y. 2 ≤ children K par y) (sym e) (omega (arith, three-children))) (λ e. omega (arith, two-children w h (omega arith)))
-
+  -- so an inner vertex has a child 0 and a child 1, the root a child 2
   pub child₀ : (w : ℕ) → N ≤ w → w ≤ K → Child K par w 0 (childOf K par w 0)
-  child₀ w h k = child-is K par w 0 (omega (arith, more w h k))
+  child₀ w h k = child-is K par w 0 (omega (arith, kids≥2 N K par ok w h k))
 
   pub child₁ : (w : ℕ) → N ≤ w → w ≤ K → Child K par w 1 (childOf K par w 1)
-  child₁ w h k = child-is K par w 1 (omega (arith, more w h k))
+  child₁ w h k = child-is K par w 1 (omega (arith, kids≥2 N K par ok w h k))
 
   pub child₂ : Child K par K 2 (childOf K par K 2)
   child₂ = child-is K par K 2 (omega (arith, three-children))
@@ -181,6 +179,7 @@ module _ (N K : ℕ) (par : ℕ → ℕ) (ok : Allowed N K par) (res : Resolved 
       (λ r. inr (inl (found K c 1 l e r)))
       (λ r. inr (inr (found K c 2 l e (omega (arith, place-less K par K c l e, three-children))))))
 
+  -- they differ
   pub apart-two : (w : ℕ) → N ≤ w → w ≤ K → childOf K par w 0 ≢ childOf K par w 1
   apart-two w h k = child-apart K par w 0 1 (childOf K par w 0) (childOf K par w 1) (child₀ w h k) (child₁ w h k) (omega arith)
 

@@ -25,6 +25,7 @@ pos+ {a} {b} p q = is-< (le-by (nn+ (nn-sub (<-is p)) (nn+ (nn-sub (<-is q)) (nn
 abbrev pub starOf : (a b c ab ac bc : ℤ) → ℤ
 starOf a b c ab ac bc = c *ℤ ab +ℤ b *ℤ ac -ℤ a *ℤ bc
 
+-- t are those paths, twice and times bc
 abbrev pub IsStar : (a b c t ab ac bc : ℤ) → Type 0
 IsStar a b c t ab ac bc = pos 2 *ℤ (b *ℤ c) *ℤ t ≡ starOf a b c ab ac bc
 
@@ -33,6 +34,7 @@ abbrev pub edgeOf : (a b c d ab ac ad bc bd cd : ℤ) → ℤ
 edgeOf a b c d ab ac ad bc bd cd = (a *ℤ d +ℤ b *ℤ c) *ℤ (b *ℤ d *ℤ ac +ℤ a *ℤ c *ℤ bd) +ℤ (a *ℤ c +ℤ b *ℤ d) *ℤ (b *ℤ c *ℤ ad +ℤ a *ℤ d *ℤ bc)
     -ℤ (a +ℤ b) *ℤ (c +ℤ d) *ℤ (c *ℤ d *ℤ ab +ℤ a *ℤ b *ℤ cd)
 
+-- l is that length, times its denominator
 abbrev pub IsEdge : (a b c d l ab ac ad bc bd cd : ℤ) → Type 0
 IsEdge a b c d l ab ac ad bc bd cd = pos 2 *ℤ (a *ℤ b *ℤ (c *ℤ d)) *ℤ ((a +ℤ b) *ℤ (c +ℤ d)) *ℤ l ≡ edgeOf a b c d ab ac ad bc bd cd
 

@@ -25,7 +25,8 @@ use Rattle.direct.proofs.Sets.{rest, rest-swap, beyond, two-kids, three
 
 -- ---- paths over one edge
 module _ (par : ℕ → ℕ) (K : ℕ) (up : Up par K) (x : ℕ → ℤ) where
-  pub along-edge : (i c : ℕ) → c < K → along par K x i c ≡ along par K x i (par c) +ℤ (pos 1 -ℤ pos 2 *ℤ bit par c i) *ℤ x c
+  -- the path to the lower end of an edge from that to its upper end: longer by the edge, or shorter from below it
+  along-edge : (i c : ℕ) → c < K → along par K x i c ≡ along par K x i (par c) +ℤ (pos 1 -ℤ pos 2 *ℤ bit par c i) *ℤ x c
   along-edge i c h = (unfold path in
       sum-cong K (λ v l. ap (λ y. y *ℤ x v) (parts-ind par v i c ∙ ap (λ y. bit par v i +ℤ y -ℤ pos 2 *ℤ (bit par v i *ℤ y)) (above par K up v c l h))
       ∙ by-ring (bit par v i ∷ bit par v (par c) ∷ ind (eqb v c) ∷ x v ∷ []) (search quote depth 20) tt
@@ -34,8 +35,8 @@ module _ (par : ℕ → ℕ) (K : ℕ) (up : Up par K) (x : ℕ → ℤ) where
       ∙ ap (λ y. sum K (λ v. ind (parts par v i (par c)) *ℤ x v) +ℤ y) (sum-at K c (λ v. (pos 1 -ℤ pos 2 *ℤ bit par v i) *ℤ x v) h))
 
   module _ (N : ℕ) where
-    -- from the far end of the edge c
-    pub reach-in : (c : ℕ) → c < K → reach N (along par K x) (bit par c) (par c) ≡ sum N (bit par c) *ℤ x c +ℤ reach N (along par K x) (bit par c) c
+    -- the paths from the strains below an edge to its upper end, by those to its lower end
+    reach-in : (c : ℕ) → c < K → reach N (along par K x) (bit par c) (par c) ≡ sum N (bit par c) *ℤ x c +ℤ reach N (along par K x) (bit par c) c
     reach-in c h = unfold reach in
         sum-cong N (λ i l. sym (ap (λ y. bit par c i *ℤ x c +ℤ bit par c i *ℤ y) (along-edge i c h) ∙ one (bit par c i) (x c) (along par K x i (par c)) (ind-sq (below par i c))))
         ∙ sum-+ N (λ i. bit par c i *ℤ x c) (λ i. bit par c i *ℤ along par K x i c)
@@ -44,7 +45,8 @@ module _ (par : ℕ → ℕ) (K : ℕ) (up : Up par K) (x : ℕ → ℤ) where
         one : (b x a : ℤ) → b *ℤ b ≡ b → b *ℤ x +ℤ b *ℤ (a +ℤ (pos 1 -ℤ pos 2 *ℤ b) *ℤ x) ≡ b *ℤ a
         one b x a e = eq-by (z* (negsuc 1 *ℤ x) (z-sub e)) (by-ring (b ∷ x ∷ a ∷ []) (search quote depth 20) tt)
 
-    pub reach-out : (c : ℕ) (X : ℕ → ℤ) → c < K → Same N (λ i. pos 1 -ℤ bit par c i) X → reach N (along par K x) X c ≡ sum N X *ℤ x c +ℤ reach N (along par K x) X (par c)
+    -- the paths from all others to its lower end, by those to its upper end
+    reach-out : (c : ℕ) (X : ℕ → ℤ) → c < K → Same N (λ i. pos 1 -ℤ bit par c i) X → reach N (along par K x) X c ≡ sum N X *ℤ x c +ℤ reach N (along par K x) X (par c)
     reach-out c X h s = unfold reach in
         sum-cong N (λ i l. ap₂ _*ℤ_ (sym (s i l)) (along-edge i c h)
         ∙ one (bit par c i) (x c) (along par K x i (par c)) (ind-sq (below par i c))
@@ -63,15 +65,19 @@ module _ (N K : ℕ) (par : ℕ → ℕ) (ok : Allowed N K par) (g : Degree3 N K
       (outer : (c : ℕ) → c < N → IsStar (pos 1) (sum N (bit par (g .other c))) (sum N (rest par c (g .other c))) (x c)
       (link N e (bit par c) (bit par (g .other c))) (link N e (bit par c) (rest par c (g .other c))) (link N e (bit par (g .other c)) (rest par c (g .other c))))
       (inner : (c : ℕ) → N ≤ c → c < K → Edge N e (bit par (first c)) (bit par (second c)) (bit par (g .other c)) (rest par c (g .other c)) (x c)) where
-    abbrev pub r : ℕ → ℕ → ℤ
+    -- paths with lengths x
+    abbrev r : ℕ → ℕ → ℤ
     r = along par K x
 
+    -- the law from the strains below c to c's parent
     E : ℕ → Type 0
     E c = Star N e r (bit par c) (bit par (g .other c)) (rest par c (g .other c)) (par c)
 
+    -- the law in all three directions at w
     All : ℕ → Type 0
     All w = Three N e r (bit par (first w)) (bit par (second w)) (rest par (first w) (second w)) w
 
+    -- a strain's own edge: the path to its parent is the edge's length, which is K11's
     own-zero : (c : ℕ) → c < N → reach N r (bit par c) c ≡ pos 0
     unfolding reach
     own-zero c h = sum-cong N (λ i l. ap (λ y. y *ℤ along par K x i c) (own N K par ok g c i h)) ∙ sum-at N c (λ i. along par K x i c) h ∙ along-self par K x c
@@ -85,6 +91,7 @@ module _ (N K : ℕ) (par : ℕ → ℕ) (ok : Allowed N K par) (g : Degree3 N K
     unfolding E
     leaf-edge c h = rw (own-size N K par ok g c h, own-reach c h) (outer c h)
 
+    -- the law from the first child, the second, and the root's third, by the sets at their parent
     star-first : (w : ℕ) → N ≤ w → w ≤ K → E (first w) → Star N e r (bit par (first w)) (bit par (second w)) (rest par (first w) (second w)) w
     unfolding E
     star-first w h k s = rw (other-of-first N K par ok g w h k, g .under₁ w h k) at s
@@ -164,6 +171,7 @@ module _ (N K : ℕ) (par : ℕ → ℕ) (ok : Allowed N K par) (g : Degree3 N K
         mid (inl s) = subst Around (sym s) (around-1 (par c) (ok .inner c l) (ok .top c l) t)
         mid (inr s) = subst Around (sym s) (around-2 (par c) (ok .inner c l) (ok .top c l) t)
 
+    -- from the three directions at c's parent to what is beyond c at c
     up-step : (c : ℕ) → N ≤ c → c < K → Around c → Star N e r (rest par (first c) (second c)) (bit par (first c)) (bit par (second c)) c
     up-step c h k t = over N e r e-sym (bit par (g .other c)) (rest par c (g .other c)) (bit par (first c)) (bit par (second c)) (rest par (first c) (second c)) (bit par c) (par c) c (x c)
         (λ i l. beyond N K par ok g c i l h k) (λ i l. sym (two-kids N K par ok g c i l h k))
@@ -173,6 +181,7 @@ module _ (N K : ℕ) (par : ℕ → ℕ) (ok : Allowed N K par) (g : Degree3 N K
         (star-swap N e r e-sym (rest par c (g .other c)) (bit par c) (bit par (g .other c)) (par c) (t .from₃))
         (edge-flip N e r e-sym (bit par (first c)) (bit par (second c)) (bit par (g .other c)) (rest par c (g .other c)) (x c) (inner c h k))
 
+    -- at most n steps below the root
     all-to : (n w : ℕ) → K ≤ w + n → N ≤ w → w ≤ K → All w
     unfolding All
     all-to zero w m h k = let q : w ≡ K = omega arith in subst All (sym q) at-root
@@ -185,5 +194,6 @@ module _ (N K : ℕ) (par : ℕ → ℕ) (ok : Allowed N K par) (g : Degree3 N K
           from₃ = up-step w h l (around w l (ih l));
         })
 
+    -- the law in all three directions at every edge's upper end
     pub star : (c : ℕ) → c < K → Around c
     star c l = around c l (all-to K (par c) (omega arith) (ok .inner c l) (ok .top c l))

@@ -75,9 +75,11 @@ module _ (N K : ℕ) (par : ℕ → ℕ) (ok : Allowed N K par) (g : Degree3 N K
       child (inl q) = ap₂ _+ℤ_ (hit q) (miss u (second w) (λ s. g .apart₁₂ w h (omega arith) (sym q ∙ s)))
       child (inr q) = ap₂ _+ℤ_ (miss u (first w) (λ s. g .apart₁₂ w h (omega arith) (sym s ∙ q))) (hit q)
 
+  -- every strain has an edge
   pub N≤K : N ≤ K
   N≤K = omega (arith, ok .edges)
 
+  -- the root's are one of the three
   is-three : (u : ℕ) → u < K → ind (kid par K u) ≡ ind (eqb u (first K)) +ℤ ind (eqb u (second K)) +ℤ ind (eqb u third)
   is-three u l = by-cases (ℕ-discrete (par u) K)
       (λ e. hit e ∙ sym (child (g .only-root u l e)))
@@ -88,12 +90,14 @@ module _ (N K : ℕ) (par : ℕ → ℕ) (ok : Allowed N K par) (g : Degree3 N K
       child (inr (inl q)) = ap₂ _+ℤ_ (ap₂ _+ℤ_ (miss u (first K) (λ s. g .apart₁₂ K N≤K (omega arith) (sym s ∙ q))) (hit q)) (miss u third (λ s. g .apart₂₃ (sym q ∙ s)))
       child (inr (inr q)) = ap₂ _+ℤ_ (ap₂ _+ℤ_ (miss u (first K) (λ s. g .apart₁₃ (sym s ∙ q))) (miss u (second K) (λ s. g .apart₂₃ (sym s ∙ q)))) (hit q)
 
+  -- a cluster is its two children's
   pub two-kids : (w i : ℕ) → i < N → N ≤ w → w < K → bit par w i ≡ bit par (first w) i +ℤ bit par (second w) i
   two-kids w i hi h k = partition par K (ok .up) w i (omega arith) (omega arith)
       ∙ sum-cong K (λ u l. ap (λ y. y *ℤ bit par u i) (is-two w u h k l) ∙ *ℤ-distribʳ (ind (eqb u (first w))) (ind (eqb u (second w))) (bit par u i))
       ∙ sum-+ K (λ u. ind (eqb u (first w)) *ℤ bit par u i) (λ u. ind (eqb u (second w)) *ℤ bit par u i)
       ∙ ap₂ _+ℤ_ (sum-at K (first w) (λ u. bit par u i) (g .edge₁ w h (omega arith))) (sum-at K (second w) (λ u. bit par u i) (g .edge₂ w h (omega arith)))
 
+  -- all strains are the root's three children's
   pub three-kids : (i : ℕ) → i < N → pos 1 ≡ bit par (first K) i +ℤ bit par (second K) i +ℤ bit par third i
   three-kids i hi = sym (ind-yes (below-yes par i K (below-root par K (ok .up) (ok .top) i (omega (arith, N≤K)))))
       ∙ partition par K (ok .up) K i (omega arith) (omega (arith, N≤K))
@@ -104,12 +108,14 @@ module _ (N K : ℕ) (par : ℕ → ℕ) (ok : Allowed N K par) (g : Degree3 N K
       (sum-at K third (λ u. bit par u i) (g .edge₃))
 
   -- ---- the other child
+  -- a first child's sibling is the second, any other's the first
   pub other-of-first : (w : ℕ) → N ≤ w → w ≤ K → g .other (first w) ≡ second w
   other-of-first w h k = g .other-first (first w) (ap first (sym (g .under₁ w h k))) ∙ ap second (g .under₁ w h k)
 
   pub other-of-later : (w c : ℕ) → par c ≡ w → c ≢ first w → g .other c ≡ first w
   other-of-later w c e n = g .other-later c (λ q. n (q ∙ ap first e)) ∙ ap first e
 
+  -- the sibling is another edge under the same parent
   pub other-is : (c : ℕ) → c < K → Sibling K par c (g .other c)
   other-is c l = let w = par c in let h = ok .inner c l in let k = ok .top c l in by-cases (ℕ-discrete c (first w))
       (λ q. let s = g .other-first c q in record {
@@ -124,9 +130,11 @@ module _ (N K : ℕ) (par : ℕ → ℕ) (ok : Allowed N K par) (g : Degree3 N K
       })
 
   -- ---- no direction is empty
+  -- a strain is below every vertex
   pub bit-pos : (v : ℕ) → v ≤ K → pos 0 <ᶻ sum N (bit par v)
   bit-pos v k = let (i, l, b) = leaf N K par ok v k in sum-pos N i (bit par v) (λ j m. ind-nn (below par j v)) l (ind-yes (below-yes par i v b))
 
+  -- and one below neither an edge nor its sibling
   pub rest-pos : (c : ℕ) → c < K → pos 0 <ᶻ sum N (rest par c (g .other c))
   rest-pos c l = let s = other-is c l in let (k, m, a, b) = third-way N K par ok c (g .other c) l (s .edge) (s .under) in
       sum-pos N k (rest par c (g .other c))
@@ -134,11 +142,13 @@ module _ (N K : ℕ) (par : ℕ → ℕ) (ok : Allowed N K par) (g : Degree3 N K
       m (ap₂ (λ x y. pos 1 -ℤ x -ℤ y) (ind-no (below-no par k c a)) (ind-no (below-no par k (g .other c) b)))
 
   -- ---- a strain's own edge
+  -- nothing but the strain is below it
   pub own : (c i : ℕ) → c < N → bit par c i ≡ ind (eqb i c)
   own c i h = children par K (ok .up) c i (omega (arith, N≤K))
       ∙ ap (λ y. ind (eqb i c) +ℤ y) (sum-cong K (λ u l. ap (λ y. y *ℤ bit par u i) (miss (par u) c (omega (arith, ok .inner u l))) ∙ zero-*ℤ (bit par u i)) ∙ sum-zero K)
       ∙ +ℤ-idr (ind (eqb i c))
 
+  -- so its cluster has size 1
   pub own-size : (c : ℕ) → c < N → sum N (bit par c) ≡ pos 1
   own-size c h = sum-cong N (λ i l. own c i h ∙ sym (*ℤ-oneʳ (ind (eqb i c)))) ∙ sum-at N c (λ i. pos 1) h
 

@@ -28,6 +28,7 @@ use Rattle.direct.proofs.Sets.{rest, neither-rest, two-kids, bit-pos, r
 
 -- ---- sets as weights
 module _ (N : ℕ) where
+  -- a set's size by its weights
   pub size-sum : (A : ℕ → Bool) (f : ℕ → ℤ) → Same N (λ i. ind (A i)) f → size N A ≡ sum N f
   unfolding size
   size-sum A f h = sum-cong N h
@@ -54,10 +55,10 @@ module _ (N : ℕ) where
       ∙ ap₂ _+ℤ_ (sum-+ N (λ i. pos 1) (λ i. negℤ (bit par c i)) ∙ ap₂ _+ℤ_ (sum-const N (pos 1) ∙ *ℤ-oneʳ (pos N)) (sum-neg N (bit par c))) (sum-neg N (bit par s))
 
   module _ (par : ℕ → ℕ) (K : ℕ) (up : Up par K) (c s : ℕ) (l : c < K) (h : Sibling K par c s) where
+    -- those below neither of two siblings, by their weights and by the two clusters
     pub size-rest : size N (neither par c s) ≡ sum N (rest par c s)
     size-rest = size-sum (neither par c s) (rest par c s) (λ i k. neither-rest par K up c s i l h)
 
-    -- those below neither of two siblings are all but the two clusters
     pub size-neither : size N (neither par c s) ≡ pos N -ℤ size N (cluster par c) -ℤ size N (cluster par s)
     size-neither = size-rest ∙ rest-sum par c s ∙ ap₂ (λ x y. pos N -ℤ x -ℤ y) (sym (size-cluster par c)) (sym (size-cluster par s))
 

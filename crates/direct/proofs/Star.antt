@@ -27,10 +27,8 @@ link N e f g = sum N (λ i. sum N (λ j. f i *ℤ g j *ℤ e i j))
 unfoldable pub reach : ℕ → (ℕ → ℕ → ℤ) → (ℕ → ℤ) → ℕ → ℤ
 reach N r f w = sum N (λ i. f i *ℤ r i w)
 
-abbrev pub _∪_ : (ℕ → ℤ) → (ℕ → ℤ) → ℕ → ℤ
-_∪_ f g i = f i +ℤ g i
-
 module _ (N : ℕ) where
+  -- the same sets have the same sums
   pub link-cong : (e : ℕ → ℕ → ℤ) (f f′ g g′ : ℕ → ℤ) → Same N f f′ → Same N g g′ → link N e f g ≡ link N e f′ g′
   unfolding link
   link-cong e f f′ g g′ p q = sum-cong N (λ i l. sum-cong N (λ j k. ap₂ (λ x y. x *ℤ y *ℤ e i j) (p i l) (q j k)))
@@ -39,6 +37,7 @@ module _ (N : ℕ) where
   unfolding reach
   reach-cong r f f′ w p = sum-cong N (λ i l. ap (λ x. x *ℤ r i w) (p i l))
 
+  -- the sums of a union are those of its parts
   pub link-∪ˡ : (e : ℕ → ℕ → ℤ) (f g h : ℕ → ℤ) → link N e (λ i. f i +ℤ g i) h ≡ link N e f h +ℤ link N e g h
   unfolding link
   link-∪ˡ e f g h = sum-cong N (λ i l. sum-cong N (λ j k. by-ring (f i ∷ g i ∷ h j ∷ e i j ∷ []) (search quote depth 20) tt)
@@ -50,6 +49,7 @@ module _ (N : ℕ) where
   reach-∪ r f g w = sum-cong N (λ i l. *ℤ-distribʳ (f i) (g i) (r i w)) ∙ sum-+ N (λ i. f i *ℤ r i w) (λ i. g i *ℤ r i w)
 
   module _ (e : ℕ → ℕ → ℤ) (e-sym : (i j : ℕ) → e i j ≡ e j i) where
+    -- from either side
     pub link-sym : (f g : ℕ → ℤ) → link N e f g ≡ link N e g f
     unfolding link
     link-sym f g = sum-swap N N (λ i j. f i *ℤ g j *ℤ e i j)
@@ -73,6 +73,7 @@ pub record Three (N : ℕ) (e r : ℕ → ℕ → ℤ) (f g h : ℕ → ℤ) (w 
   pub from₃ : Star N e r h f g w
 
 module _ (N : ℕ) (e r : ℕ → ℕ → ℤ) where
+  -- the law for the same sets
   pub star-cong : (f f′ g g′ h h′ : ℕ → ℤ) (w : ℕ) → Same N f f′ → Same N g g′ → Same N h h′ → Star N e r f g h w → Star N e r f′ g′ h′ w
   star-cong f f′ g g′ h h′ w p q s t = rw (
     ← (sum-cong N p),
@@ -85,6 +86,7 @@ module _ (N : ℕ) (e r : ℕ → ℕ → ℤ) where
   ) t
 
   module _ (e-sym : (i j : ℕ) → e i j ≡ e j i) where
+    -- the other two directions may be exchanged
     pub star-swap : (f g h : ℕ → ℤ) (w : ℕ) → Star N e r f g h w → Star N e r f h g w
     star-swap f g h w t = flip (sum N f) (sum N g) (sum N h) (reach N r f w) (link N e f g) (link N e f h) (link N e g h) (link N e h g) (link-sym N e e-sym g h) t
       where
@@ -101,6 +103,7 @@ module _ (N : ℕ) (e r : ℕ → ℕ → ℤ) where
         flip a b c d l ab ac ad bc bd cd t = by-ring (a ∷ b ∷ c ∷ d ∷ l ∷ []) (search quote depth 60 fits 9000) tt ∙ t
             ∙ by-ring (a ∷ b ∷ c ∷ d ∷ ab ∷ ac ∷ ad ∷ bc ∷ bd ∷ cd ∷ []) (search quote depth 60 fits 9000) tt
 
+    -- the three directions in another order, and by other names of the sets
     pub three-12 : (f g h : ℕ → ℤ) (w : ℕ) → Three N e r f g h w → Three N e r g f h w
     three-12 f g h w t = record { from₁ = t .from₂; from₂ = t .from₁; from₃ = star-swap h f g w (t .from₃) }
 

@@ -25,6 +25,7 @@ Value f p q = f .top *ℤ q ≡ p *ℤ f .bottom
 pub value-by : (f : Fraction) (k p q p′ q′ : ℤ) → p′ ≡ k *ℤ p → q′ ≡ k *ℤ q → Value f p q → Value f p′ q′
 value-by f k p q p′ q′ e e′ h = ap (λ y. f .top *ℤ y) e′ ∙ eq-by (z* k (z-sub h)) (by-ring (f .top ∷ f .bottom ∷ k ∷ p ∷ q ∷ []) (search quote depth 20) tt) ∙ ap (λ y. y *ℤ f .bottom) (sym e)
 
+-- sums and differences over one denominator
 pub value-⊕ : (f g : Fraction) (p r q : ℤ) → Value f p q → Value g r q → Value (f ⊕ g) (p +ℤ r) q
 value-⊕ f g p r q h k = eq-by (z+ (z* (g .bottom) (z-sub h)) (z* (f .bottom) (z-sub k)))
     (by-ring (f .top ∷ f .bottom ∷ g .top ∷ g .bottom ∷ p ∷ r ∷ q ∷ []) (search quote depth 20) tt)
@@ -33,6 +34,7 @@ pub value-⊖ : (f g : Fraction) (p r q : ℤ) → Value f p q → Value g r q �
 value-⊖ f g p r q h k = eq-by (z+ (z* (g .bottom) (z-sub h)) (z* (negℤ (f .bottom)) (z-sub k)))
     (by-ring (f .top ∷ f .bottom ∷ g .top ∷ g .bottom ∷ p ∷ r ∷ q ∷ []) (search quote depth 20) tt)
 
+-- products and halves
 pub value-⊗ : (f g : Fraction) (p q r s : ℤ) → Value f p q → Value g r s → Value (f ⊗ g) (p *ℤ r) (q *ℤ s)
 value-⊗ f g p q r s h k = eq-by (z+ (z* (g .top *ℤ s) (z-sub h)) (z* (p *ℤ f .bottom) (z-sub k)))
     (by-ring (f .top ∷ f .bottom ∷ g .top ∷ g .bottom ∷ p ∷ q ∷ r ∷ s ∷ []) (search quote depth 20) tt)
