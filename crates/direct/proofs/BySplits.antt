@@ -29,8 +29,8 @@ use Rattle.direct.proofs.Children.{degree3, sibling-is, farther-is, inn
 use Rattle.direct.proofs.Quartet.{starOf, edgeOf}
 use Rattle.direct.proofs.Star.{Same, link, link-cong, link-sym, link-∪ˡ, link-∪ʳ}
 use Rattle.direct.proofs.Crossing.{either-sym, split-cross, cross-three}
-use Rattle.direct.proofs.Sets.{rest, neither-rest, two-kids, three-kids}
-use Rattle.direct.proofs.Sizes.{between-link, cluster-some, neither-some, own-one}
+use Rattle.direct.proofs.Sets.{rest, two-kids, three-kids}
+use Rattle.direct.proofs.Sizes.{between-link, between-clusters, between-neither, neither-weights, cluster-some, neither-some, own-one}
 use Rattle.direct.proofs.Values.{Value, outer-value, inner-value, outer-positive, inner-positive}
 
 -- ---- the tops by the sums between the sets
@@ -49,8 +49,8 @@ doubled : (f : Fraction) (p q p′ q′ : ℤ) → Value f p q → p′ ≡ pos 
 doubled f p q p′ q′ h ep eq = rw (ep, eq) (eq-by (z* (pos 2) (z-sub h)) (by-ring (f .top ∷ f .bottom ∷ p ∷ q ∷ []) (search quote depth 20) tt))
 
 -- all but a set
-comp : (A : ℕ → Bool) (f : ℕ → ℤ) (N : ℕ) → Same N (λ i. ind (A i)) f → Same N (λ i. ind (not (A i))) (λ i. pos 1 -ℤ f i)
-comp A f N h i l = eq-by (z-sub (ind-not (A i))) (by-ring (ind (A i) ∷ ind (not (A i)) ∷ []) (search quote depth 20) tt) ∙ ap (λ y. pos 1 -ℤ y) (h i l)
+all-but : (A : ℕ → Bool) (f : ℕ → ℤ) (N : ℕ) → Same N (λ i. ind (A i)) f → Same N (λ i. ind (not (A i))) (λ i. pos 1 -ℤ f i)
+all-but A f N h i l = eq-by (z-sub (ind-not (A i))) (by-ring (ind (A i) ∷ ind (not (A i)) ∷ []) (search quote depth 20) tt) ∙ ap (λ y. pos 1 -ℤ y) (h i l)
 
 module _ (N K : ℕ) (par : ℕ → ℕ) (ok : Allowed N K par) (res : Resolved N K par) (d : ℕ × ℕ → ℤ) where
   -- the distances between two sets given by weights
@@ -125,21 +125,17 @@ module _ (N K : ℕ) (par : ℕ → ℕ) (ok : Allowed N K par) (res : Resolved 
     split-farther : σ (farther K par c) ≡ S (bit par c) R +ℤ S (bit par s) R
     split-farther = farther-cross ∙ split-rest
 
-    -- the weights of the strains below neither
-    ne : Same N (λ i. ind (neither par c s i)) R
-    ne i k = neither-rest par K (ok .up) c s i l (sibling-is N K par ok res c l)
-
     -- the sums of K11 by weights
     to-own : between N d (cluster par c) (cluster par s) ≡ S (bit par c) (bit par s)
-    to-own = between-link N d (cluster par c) (cluster par s) (bit par c) (bit par s) (λ i k. refl) (λ i k. refl)
+    to-own = between-clusters N d par c s
 
     to-rest : (v : ℕ) → between N d (cluster par v) (neither par c s) ≡ S (bit par v) R
-    to-rest v = between-link N d (cluster par v) (neither par c s) (bit par v) R (λ i k. refl) ne
+    to-rest = between-neither N K par ok res d c l
 
     -- the split sum of the edge farther on: from the strains below neither to all others
     pub farther-between : σ (farther K par c) ≡ between N d (neither par c (sibling K par c)) (λ i. not (neither par c (sibling K par c) i))
     farther-between = farther-cross
-        ∙ sym (between-link N d (neither par c s) (λ i. not (neither par c s i)) R (λ i. pos 1 -ℤ R i) ne (comp (neither par c s) R N ne))
+        ∙ sym (between-link N d (neither par c s) (λ i. not (neither par c s i)) R (λ i. pos 1 -ℤ R i) (neither-weights N K par ok res c l) (all-but (neither par c s) R N (neither-weights N K par ok res c l)))
 
     -- twice the distances between the edge's strains and its sibling's, the edge's and those of neither, the sibling's and those
     pub twice-own : twice (σ c) (σ (sibling K par c)) (σ (farther K par c)) ≡ pos 2 *ℤ between N d (cluster par c) (cluster par (sibling K par c))
@@ -154,7 +150,7 @@ module _ (N K : ℕ) (par : ℕ → ℕ) (ok : Allowed N K par) (res : Resolved 
   -- a split sum is the distances between a cluster and all others
   pub split-between : (v : ℕ) → σ v ≡ between N d (cluster par v) (λ i. not (cluster par v i))
   split-between v = split-cross N par d v
-      ∙ sym (between-link N d (cluster par v) (λ i. not (cluster par v i)) (bit par v) (λ i. pos 1 -ℤ bit par v i) (λ i k. refl) (comp (cluster par v) (bit par v) N (λ i k. refl)))
+      ∙ sym (between-link N d (cluster par v) (λ i. not (cluster par v i)) (bit par v) (λ i. pos 1 -ℤ bit par v i) (λ i k. refl) (all-but (cluster par v) (bit par v) N (λ i k. refl)))
 
   -- ---- an outer edge
   -- the top is twice K11's
@@ -209,10 +205,6 @@ module _ (N K : ℕ) (par : ℕ → ℕ) (ok : Allowed N K par) (res : Resolved 
         (λ i k. eq-by (z-sub (both i k)) (by-ring (bit par c i ∷ bit par (s c l) i ∷ bit par x i ∷ bit par y i ∷ []) (search quote depth 20) tt))
         ∙ ap₂ _+ℤ_ (link-sym N (either d) (either-sym d) (bit par y) (bit par x)) (link-∪ʳ N (either d) (either-sym d) (bit par y) (bit par (s c l)) (R c l))
 
-    -- the sums of K11 by weights
-    to-clusters : (u v : ℕ) → between N d (cluster par u) (cluster par v) ≡ S (bit par u) (bit par v)
-    to-clusters u v = between-link N d (cluster par u) (cluster par v) (bit par u) (bit par v) (λ i k. refl) (λ i k. refl)
-
     -- the top is twice K11's
     pub inner-top : innerTop (size N (cluster par (childOf K par c 0))) (size N (cluster par (childOf K par c 1))) (size N (cluster par (sibling K par c))) (size N (neither par c (sibling K par c)))
         (σ c) (σ (childOf K par c 0)) (σ (childOf K par c 1)) (σ (sibling K par c)) (σ (farther K par c))
@@ -221,7 +213,7 @@ module _ (N K : ℕ) (par : ℕ → ℕ) (ok : Allowed N K par) (res : Resolved 
         (between N d (cluster par (childOf K par c 0)) (neither par c (sibling K par c))) (between N d (cluster par (childOf K par c 1)) (cluster par (sibling K par c)))
         (between N d (cluster par (childOf K par c 1)) (neither par c (sibling K par c))) (between N d (cluster par (sibling K par c)) (neither par c (sibling K par c)))
     inner-top = let w = sibling K par c in
-        rw (to-clusters x y, to-clusters x w, to-clusters y w, to-rest c l x, to-rest c l y, to-rest c l w)
+        rw (between-clusters N d par x y, between-clusters N d par x w, between-clusters N d par y w, to-rest c l x, to-rest c l y, to-rest c l w)
         (inner-twice (size N (cluster par x)) (size N (cluster par y)) (size N (cluster par w)) (size N (neither par c w))
         (S (bit par x) (bit par y)) (S (bit par x) (bit par w)) (S (bit par x) (R c l)) (S (bit par y) (bit par w)) (S (bit par y) (R c l)) (S (bit par w) (R c l))
         (σ c) (σ x) (σ y) (σ w) (σ (farther K par c))

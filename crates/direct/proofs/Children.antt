@@ -3,7 +3,7 @@
 -- `child-is`: child k is one, and its place is k; `child-at`, `place-less`: every child is the child of its place;
 -- `child-apart`: children of different places differ;
 -- `degree3`: on a resolved tree every inner vertex has two children, the root a third, and there is no other;
--- `sibling-is`: the sibling is another edge under the same parent;
+-- `other-is`, `sibling-is`: the sibling is another edge under the same parent;
 -- `farther-is`: the edge farther on is the parent's own, or at the root a third child;
 -- `inner-cases`, `root-cases`: the edges at a vertex in any order, from their order by number.
 use mathlib.Core.Path.{_≡_, refl, sym, _∙_, ap, subst, subst₂}
@@ -143,6 +143,21 @@ pub record Farther (K : ℕ) (par : ℕ → ℕ) (c s e : ℕ) : Type 0 where
   pub inside : par c < K → e ≡ par c
   pub at-root : par c ≡ K → (par e ≡ K) × (e ≢ c) × (e ≢ s)
 
+module _ (N K : ℕ) (par : ℕ → ℕ) (ok : Allowed N K par) (g : Degree3 N K par) where
+  -- the sibling is another edge under the same parent
+  pub other-is : (c : ℕ) → c < K → Sibling K par c (g .other c)
+  other-is c l = let w = par c in let h = ok .inner c l in let k = ok .top c l in by-cases (ℕ-discrete c (g .first w))
+      (λ q. let s = g .other-first c q in record {
+        edge = subst (λ y. y < K) (sym s) (g .edge₂ w h k);
+        under = ap par s ∙ g .under₂ w h k;
+        apart = λ z. g .apart₁₂ w h k (sym q ∙ sym z ∙ s);
+      })
+      (λ q. let s = g .other-later c q in record {
+        edge = subst (λ y. y < K) (sym s) (g .edge₁ w h k);
+        under = ap par s ∙ g .under₁ w h k;
+        apart = λ z. q (sym z ∙ s);
+      })
+
 module _ (N K : ℕ) (par : ℕ → ℕ) (ok : Allowed N K par) (res : Resolved N K par) where
   -- every inner vertex but the root has two children
   pub two-children : (w : ℕ) → N ≤ w → w < K → children K par w ≡ 2
@@ -218,20 +233,9 @@ module _ (N K : ℕ) (par : ℕ → ℕ) (ok : Allowed N K par) (res : Resolved 
     other-later = sibling-later;
   }
 
-  -- the sibling is another edge under the same parent
   pub sibling-is : (c : ℕ) → c < K → Sibling K par c (sibling K par c)
-  sibling-is c l = by-cases (ℕ-discrete c (childOf K par (par c) 0))
-      (λ q. rw (eq-yes q) (record { edge = child₁ w h k .edge; under = child₁ w h k .under; apart = λ z. apart-two w h k (sym q ∙ sym z) }))
-      (λ q. rw (eq-no q) (record { edge = child₀ w h k .edge; under = child₀ w h k .under; apart = λ z. q (sym z) }))
-    where
-      w : ℕ
-      w = par c
-
-      h : N ≤ par c
-      h = ok .inner c l
-
-      k : par c ≤ K
-      k = ok .top c l
+  unfolding degree3
+  sibling-is = other-is N K par ok degree3
 
   -- the third edge at a vertex: its own, or the root's third child
   third-inner : (w : ℕ) → w < K → thirdAt K par w ≡ w

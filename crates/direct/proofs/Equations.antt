@@ -14,7 +14,7 @@ use Rattle.exact.proofs.Quote.{by-ring, quote, z-sub}
 use Rattle.exact.proofs.Decide.{by-cases}
 use Rattle.exact.specs.Order.{_<ᶻ_}
 use Rattle.exact.proofs.Order.{is-<, pos-≤}
-use Rattle.exact.specs.Sum.{sum, pairs, ind}
+use Rattle.exact.specs.Sum.{sum, pairs}
 use Rattle.exact.proofs.Sum.{sum-cong, sum-+, sum-*, sum-*ʳ, sum-neg, pairs-cong, ind-sq, ind-yes, ind-no}
 use Rattle.exact.specs.LeastSquares.{path, edgeSum, Equations}
 use Rattle.tree.specs.Chain.{below, partsPair}
@@ -24,12 +24,12 @@ use Rattle.tree.proofs.Directions.{through}
 use Rattle.direct.specs.Averages.{cluster, neither, size, either, between}
 use Rattle.direct.specs.Children.{Resolved, childOf, sibling}
 use Rattle.direct.specs.Formula.{outerAt, innerAt, edgeLength}
-use Rattle.direct.proofs.Children.{Degree3, degree3, sibling-is, child₀, child₁}
+use Rattle.direct.proofs.Children.{Degree3, degree3, other-is, sibling-is, child₀, child₁}
 use Rattle.direct.proofs.Quartet.{starOf, edgeOf, IsStar, IsEdge}
 use Rattle.direct.proofs.Star.{Same, link, reach, Edge, Three, link-cong, link-∪ʳ, reach-cong, reach-∪, three-meets}
 use Rattle.direct.proofs.Crossing.{pairs-cross, either-lt, either-sym}
-use Rattle.direct.proofs.Sets.{rest, neither-rest, other-is, bit-pos, rest-pos}
-use Rattle.direct.proofs.Sizes.{between-link, size-cluster, size-rest, cluster-some, neither-some, own-one}
+use Rattle.direct.proofs.Sets.{rest, bit-pos, rest-pos}
+use Rattle.direct.proofs.Sizes.{between-clusters, between-neither, size-cluster, size-rest, cluster-some, neither-some, own-one}
 use Rattle.direct.proofs.Resolved.{star}
 use Rattle.direct.proofs.Values.{outer-value, inner-value, outer-positive, inner-positive, value-same, value-common}
 
@@ -92,7 +92,7 @@ module _ (N K : ℕ) (par : ℕ → ℕ) (ok : Allowed N K par) (x : ℕ → ℤ
         inner : (c : ℕ) → N ≤ c → c < K → Edge N scaled (bit par (g .first c)) (bit par (g .second c)) (bit par (g .other c)) (rest par c (g .other c)) (x c)
 
       meet : Lengths → Equations (pairs N) K (partsPair par) d D x
-      meet t v l = edge-sides v l ∙ z-sub (to-e ∙ sym here ∙ sym to-r)
+      meet t v l = edge-sides v l ∙ z-sub (distances ∙ sym here ∙ sym paths)
         where
           G : ℕ → ℤ
           G = bit par (g .other v)
@@ -103,20 +103,20 @@ module _ (N K : ℕ) (par : ℕ → ℕ) (ok : Allowed N K par) (x : ℕ → ℤ
           out : Same N (λ j. pos 1 -ℤ bit par v j) (λ j. G j +ℤ H j)
           out j k = by-ring (bit par v j ∷ G j ∷ []) (search quote depth 20) tt
 
-          th : Three N scaled (along par K x) (bit par v) G H (par v)
-          th = star N K par ok g scaled (either-sym (λ p. D *ℤ d p)) x (t .outer) (t .inner) v l
+          directions : Three N scaled (along par K x) (bit par v) G H (par v)
+          directions = star N K par ok g scaled (either-sym (λ p. D *ℤ d p)) x (t .outer) (t .inner) v l
 
           here : (sum N G +ℤ sum N H) *ℤ reach N (along par K x) (bit par v) (par v) +ℤ sum N (bit par v) *ℤ (reach N (along par K x) G (par v) +ℤ reach N (along par K x) H (par v))
               ≡ link N scaled (bit par v) G +ℤ link N scaled (bit par v) H
-          here = three-meets N scaled (along par K x) (either-sym (λ p. D *ℤ d p)) (bit par v) G H (par v) (bit-pos N K par ok g (g .other v) (omega (arith, other-is N K par ok g v l .edge))) (rest-pos N K par ok g v l) th
+          here = three-meets N scaled (along par K x) (either-sym (λ p. D *ℤ d p)) (bit par v) G H (par v) (bit-pos N K par ok g (g .other v) (omega (arith, other-is N K par ok g v l .edge))) (rest-pos N K par ok g v l) directions
 
-          to-e : link N scaled (bit par v) (λ j. pos 1 -ℤ bit par v j) ≡ link N scaled (bit par v) G +ℤ link N scaled (bit par v) H
-          to-e = link-cong N scaled (bit par v) (bit par v) (λ j. pos 1 -ℤ bit par v j) (λ j. G j +ℤ H j) (λ i k. refl) out
+          distances : link N scaled (bit par v) (λ j. pos 1 -ℤ bit par v j) ≡ link N scaled (bit par v) G +ℤ link N scaled (bit par v) H
+          distances = link-cong N scaled (bit par v) (bit par v) (λ j. pos 1 -ℤ bit par v j) (λ j. G j +ℤ H j) (λ i k. refl) out
               ∙ link-∪ʳ N scaled (either-sym (λ p. D *ℤ d p)) (bit par v) G H
 
-          to-r : link N (along par K x) (bit par v) (λ j. pos 1 -ℤ bit par v j)
+          paths : link N (along par K x) (bit par v) (λ j. pos 1 -ℤ bit par v j)
               ≡ (sum N G +ℤ sum N H) *ℤ reach N (along par K x) (bit par v) (par v) +ℤ sum N (bit par v) *ℤ (reach N (along par K x) G (par v) +ℤ reach N (along par K x) H (par v))
-          to-r = link-along v l ∙ ap₂ (λ y z. y *ℤ reach N (along par K x) (bit par v) (par v) +ℤ sum N (bit par v) *ℤ z)
+          paths = link-along v l ∙ ap₂ (λ y z. y *ℤ reach N (along par K x) (bit par v) (par v) +ℤ sum N (bit par v) *ℤ z)
               (sum-cong N out ∙ sum-+ N G H) (reach-cong N (along par K x) (λ j. pos 1 -ℤ bit par v j) (λ j. G j +ℤ H j) (par v) out ∙ reach-∪ N (along par K x) G H (par v))
 
 -- ---- from the fractions
@@ -158,15 +158,12 @@ equations N K par ok res d num den h D n same = meet N K par ok n d D (degree3 N
     den-pos : (c : ℕ) → c < K → pos 0 <ᶻ pos (den c)
     den-pos c l = is-< (pos-≤ {m = 1} (h c l .1))
 
-    cl : (v i : ℕ) → i < N → ind (cluster par v i) ≡ bit par v i
-    cl v i l = refl
+    -- the sums between two sets, over D
+    clusters : (u v : ℕ) → link N (either (λ p. D *ℤ d p)) (bit par u) (bit par v) ≡ D *ℤ between N d (cluster par u) (cluster par v)
+    clusters u v = link-scale N D d (bit par u) (bit par v) ∙ ap (λ y. D *ℤ y) (sym (between-clusters N d par u v))
 
-    ne : (c : ℕ) → c < K → (i : ℕ) → i < N → ind (neither par c (sibling K par c) i) ≡ rest par c (sibling K par c) i
-    ne c l i k = neither-rest par K (ok .up) c (sibling K par c) i l (sibling-is N K par ok res c l)
-
-    -- the sum between two sets, over D
-    lift : (A B : ℕ → Bool) (f g : ℕ → ℤ) → Same N (λ i. ind (A i)) f → Same N (λ i. ind (B i)) g → link N (either (λ p. D *ℤ d p)) f g ≡ D *ℤ between N d A B
-    lift A B f g p q = link-scale N D d f g ∙ ap (λ y. D *ℤ y) (sym (between-link N d A B f g p q))
+    others : (c : ℕ) → c < K → (v : ℕ) → link N (either (λ p. D *ℤ d p)) (bit par v) (rest par c (sibling K par c)) ≡ D *ℤ between N d (cluster par v) (neither par c (sibling K par c))
+    others c l v = link-scale N D d (bit par v) (rest par c (sibling K par c)) ∙ ap (λ y. D *ℤ y) (sym (between-neither N K par ok res d c l v))
 
     out : (c : ℕ) → c < N → IsStar (pos 1) (sum N (bit par (sibling K par c))) (sum N (rest par c (sibling K par c))) (n c)
         (link N (either (λ p. D *ℤ d p)) (bit par c) (bit par (sibling K par c))) (link N (either (λ p. D *ℤ d p)) (bit par c) (rest par c (sibling K par c)))
@@ -177,7 +174,7 @@ equations N K par ok res d num den h D n same = meet N K par ok n d D (degree3 N
         (sum N (bit par s)) (sum N (rest par c s))
         (link N (either (λ p. D *ℤ d p)) (bit par c) (bit par s)) (link N (either (λ p. D *ℤ d p)) (bit par c) (rest par c s)) (link N (either (λ p. D *ℤ d p)) (bit par s) (rest par c s))
         (own-one N K par ok res c k) (sym (size-cluster N par s)) (sym (size-rest N par K (ok .up) c s l (sibling-is N K par ok res c l)))
-        (lift I A (bit par c) (bit par s) (cl c) (cl s)) (lift I B (bit par c) (rest par c s) (cl c) (ne c l)) (lift A B (bit par s) (rest par c s) (cl s) (ne c l))
+        (clusters c s) (others c l c) (others c l s)
         (value-common (pos 2 *ℤ (size N I *ℤ (size N A *ℤ size N B))) (num c) (pos (den c)) (n c) D (starOf (size N I) (size N A) (size N B) (between N d I A) (between N d I B) (between N d A B))
         (den-pos c l)
         (value-same (outerAt N K par d c) (starOf (size N I) (size N A) (size N B) (between N d I A) (between N d I B) (between N d A B)) (pos 2 *ℤ (size N I *ℤ (size N A *ℤ size N B)))
@@ -195,8 +192,7 @@ equations N K par ok res d num den h D n same = meet N K par ok n d D (degree3 N
         (sum N (bit par u)) (sum N (bit par v)) (sum N (bit par s)) (sum N (rest par c s))
         (L (bit par u) (bit par v)) (L (bit par u) (bit par s)) (L (bit par u) (rest par c s)) (L (bit par v) (bit par s)) (L (bit par v) (rest par c s)) (L (bit par s) (rest par c s))
         (sym (size-cluster N par u)) (sym (size-cluster N par v)) (sym (size-cluster N par s)) (sym (size-rest N par K (ok .up) c s l (sibling-is N K par ok res c l)))
-        (lift A B (bit par u) (bit par v) (cl u) (cl v)) (lift A C (bit par u) (bit par s) (cl u) (cl s)) (lift A E (bit par u) (rest par c s) (cl u) (ne c l))
-        (lift B C (bit par v) (bit par s) (cl v) (cl s)) (lift B E (bit par v) (rest par c s) (cl v) (ne c l)) (lift C E (bit par s) (rest par c s) (cl s) (ne c l))
+        (clusters u v) (clusters u s) (others c l u) (clusters v s) (others c l v) (others c l s)
         (value-common (pos 2 *ℤ (size N A *ℤ size N B *ℤ (size N C *ℤ size N E)) *ℤ ((size N A +ℤ size N B) *ℤ (size N C +ℤ size N E))) (num c) (pos (den c)) (n c) D
         (edgeOf (size N A) (size N B) (size N C) (size N E) (between N d A B) (between N d A C) (between N d A E) (between N d B C) (between N d B E) (between N d C E))
         (den-pos c l)

@@ -18,10 +18,10 @@ use Rattle.exact.specs.LeastSquares.{path}
 use Rattle.tree.specs.Chain.{below, parts}
 use Rattle.tree.specs.Allowed.{Allowed}
 use Rattle.tree.proofs.Chains.{Up, bit, along, along-self, above, parts-ind}
-use Rattle.direct.proofs.Children.{Degree3}
+use Rattle.direct.proofs.Children.{Degree3, other-is}
 use Rattle.direct.proofs.Quartet.{IsStar}
 use Rattle.direct.proofs.Star.{Same, link, reach, Star, Edge, Three, star-cong, star-swap, three-12, three-23, three-cong, over, edge-flip}
-use Rattle.direct.proofs.Sets.{rest, rest-swap, beyond, two-kids, three-kids, other-of-first, other-of-later, other-is, bit-pos, rest-pos, own, own-size, N≤K}
+use Rattle.direct.proofs.Sets.{rest, rest-swap, beyond, two-kids, three-kids, other-of-first, other-of-later, bit-pos, rest-pos, own, own-size, N≤K}
 
 -- ---- paths over one edge
 module _ (par : ℕ → ℕ) (K : ℕ) (up : Up par K) (x : ℕ → ℤ) where

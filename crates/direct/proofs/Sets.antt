@@ -1,6 +1,6 @@
 -- The sets of strains about a vertex of degree three, as weights 0 and 1: below each of its children, and below neither of two. Laws:
 -- `two-kids`, `three-kids`: a cluster is its two children's, all strains are the root's three;
--- `other-is`: the sibling is another edge under one parent; `own`, `own-size`: a strain's cluster is itself;
+-- `other-of-first`, `other-of-later`: siblings by number; `own`, `own-size`: a strain's cluster is itself;
 -- `neither-rest`: the strains below neither of two siblings; `bit-pos`, `rest-pos`: no direction is empty; `beyond`: what is not below an edge, seen from either end.
 use mathlib.Core.Path.{_≡_, refl, sym, _∙_, ap, ap₂, subst}
 use mathlib.Core.Bool.{Bool, true, false, not, _&&_}
@@ -23,7 +23,7 @@ use Rattle.tree.specs.Allowed.{Allowed}
 use Rattle.tree.proofs.Chains.{Up, bit, partition, children, below-yes, below-no, below-true, below-root}
 use Rattle.tree.proofs.Strains.{leaf, siblings, third-way}
 use Rattle.direct.specs.Averages.{neither}
-use Rattle.direct.proofs.Children.{Degree3, Sibling}
+use Rattle.direct.proofs.Children.{Degree3, Sibling, other-is}
 
 -- the strains below neither
 abbrev pub rest : (ℕ → ℕ) → ℕ → ℕ → ℕ → ℤ
@@ -115,20 +115,6 @@ module _ (N K : ℕ) (par : ℕ → ℕ) (ok : Allowed N K par) (g : Degree3 N K
   pub other-of-later : (w c : ℕ) → par c ≡ w → c ≢ first w → g .other c ≡ first w
   other-of-later w c e n = g .other-later c (λ q. n (q ∙ ap first e)) ∙ ap first e
 
-  -- the sibling is another edge under the same parent
-  pub other-is : (c : ℕ) → c < K → Sibling K par c (g .other c)
-  other-is c l = let w = par c in let h = ok .inner c l in let k = ok .top c l in by-cases (ℕ-discrete c (first w))
-      (λ q. let s = g .other-first c q in record {
-        edge = subst (λ y. y < K) (sym s) (g .edge₂ w h k);
-        under = ap par s ∙ g .under₂ w h k;
-        apart = λ z. g .apart₁₂ w h k (sym q ∙ sym z ∙ s);
-      })
-      (λ q. let s = g .other-later c q in record {
-        edge = subst (λ y. y < K) (sym s) (g .edge₁ w h k);
-        under = ap par s ∙ g .under₁ w h k;
-        apart = λ z. q (sym z ∙ s);
-      })
-
   -- ---- no direction is empty
   -- a strain is below every vertex
   pub bit-pos : (v : ℕ) → v ≤ K → pos 0 <ᶻ sum N (bit par v)
@@ -136,7 +122,7 @@ module _ (N K : ℕ) (par : ℕ → ℕ) (ok : Allowed N K par) (g : Degree3 N K
 
   -- and one below neither an edge nor its sibling
   pub rest-pos : (c : ℕ) → c < K → pos 0 <ᶻ sum N (rest par c (g .other c))
-  rest-pos c l = let s = other-is c l in let (k, m, a, b) = third-way N K par ok c (g .other c) l (s .edge) (s .under) in
+  rest-pos c l = let s = other-is N K par ok g c l in let (k, m, a, b) = third-way N K par ok c (g .other c) l (s .edge) (s .under) in
       sum-pos N k (rest par c (g .other c))
       (λ i h. subst (λ y. pos 0 ≤ᶻ y) (neither-rest par K (ok .up) c (g .other c) i l s) (ind-nn (neither par c (g .other c) i)))
       m (ap₂ (λ x y. pos 1 -ℤ x -ℤ y) (ind-no (below-no par k c a)) (ind-no (below-no par k (g .other c) b)))

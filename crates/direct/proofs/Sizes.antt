@@ -1,5 +1,5 @@
 -- How many strains the sets about an edge have, and the distances between them, as sums of weights 0 and 1. Laws:
--- `size-sum`, `between-link`: sizes and sums between sets, from their weights;
+-- `size-sum`, `between-link`, `between-clusters`, `between-neither`: sizes and sums between sets, from their weights;
 -- `size-count`: a cluster's size is a count; `size-neither`: what is below neither of two siblings is the rest;
 -- `cluster-some`, `neither-some`, `cluster-least`, `neither-least`: no set about an edge is empty; `own-one`: a strain's cluster has one strain;
 -- `outer-all`, `inner-all`: the sets about an edge are all the strains.
@@ -42,6 +42,10 @@ module _ (N : ℕ) where
       → between N d A B ≡ link N (either d) f g
   between-link d A B f g p q = between-ind d A B ∙ link-cong N (either d) (λ i. ind (A i)) f (λ i. ind (B i)) g p q
 
+  -- between two clusters
+  pub between-clusters : (d : ℕ × ℕ → ℤ) (par : ℕ → ℕ) (u v : ℕ) → between N d (cluster par u) (cluster par v) ≡ link N (either d) (bit par u) (bit par v)
+  between-clusters d par u v = between-link d (cluster par u) (cluster par v) (bit par u) (bit par v) (λ i l. refl) (λ i l. refl)
+
   -- a cluster's size, by its weights and as a count
   pub size-cluster : (par : ℕ → ℕ) (v : ℕ) → size N (cluster par v) ≡ sum N (bit par v)
   size-cluster par v = size-sum (cluster par v) (bit par v) (λ i l. refl)
@@ -80,6 +84,14 @@ module _ (N K : ℕ) (par : ℕ → ℕ) (ok : Allowed N K par) (res : Resolved 
 
   pub neither-least : (c : ℕ) → c < K → pos 1 ≤ᶻ size N (neither par c (sibling K par c))
   neither-least c l = <-is (neither-some c l)
+
+  -- the weights of those below neither, and the distances from a cluster to them
+  pub neither-weights : (c : ℕ) → c < K → Same N (λ i. ind (neither par c (sibling K par c) i)) (rest par c (sibling K par c))
+  neither-weights c l i k = neither-rest par K (ok .up) c (sibling K par c) i l (sibling-is N K par ok res c l)
+
+  pub between-neither : (d : ℕ × ℕ → ℤ) (c : ℕ) → c < K → (v : ℕ)
+      → between N d (cluster par v) (neither par c (sibling K par c)) ≡ link N (either d) (bit par v) (rest par c (sibling K par c))
+  between-neither d c l v = between-link N d (cluster par v) (neither par c (sibling K par c)) (bit par v) (rest par c (sibling K par c)) (λ i k. refl) (neither-weights c l)
 
   -- a strain's cluster is the strain alone
   pub own-one : (c : ℕ) → c < N → size N (cluster par c) ≡ pos 1
