@@ -5,7 +5,7 @@ use Prim.Native.Nat.{ℕ, zero, suc}
 use native.Mathlib.Omega.{arith}
 use lib.Dec.{T, eqb}
 use Rattle.verdict.specs.declared.Reason.{Reason}
-use Rattle.verdict.specs.declared.Reason.the-variants.{SheetTooLong, RecordCut, WrongKind, WrongCounts, BytesLeft, Strains, Distance, Vertices, Parent, Children, Edges, Denominator, Numerator, Remainders, Buffer}
+use Rattle.verdict.specs.declared.Reason.the-variants.{SheetTooLong, RecordCut, WrongKind, WrongCounts, BytesLeft, Strains, Distance, Vertices, Parent, Children, Edges, Denominator, Numerator, Remainders, Buffer, Unresolved}
 use Rattle.verdict.specs.declared.Verdict.{Verdict}
 use Rattle.verdict.specs.declared.Verdict.the-variants.{Accepted, Refused}
 use Rattle.verdict.specs.Number.{numberOf, refusalOf, test, _orElse_}
@@ -16,7 +16,7 @@ reasonOf k =
     cond (eqb k 1) SheetTooLong (cond (eqb k 2) RecordCut (cond (eqb k 3) WrongKind (cond (eqb k 4) WrongCounts
     (cond (eqb k 5) BytesLeft (cond (eqb k 6) Strains (cond (eqb k 7) Distance (cond (eqb k 8) Vertices
     (cond (eqb k 9) Parent (cond (eqb k 10) Children (cond (eqb k 11) Edges (cond (eqb k 12) Denominator
-    (cond (eqb k 13) Numerator (cond (eqb k 14) Remainders Buffer)))))))))))))
+    (cond (eqb k 13) Numerator (cond (eqb k 14) Remainders (cond (eqb k 15) Buffer Unresolved))))))))))))))
 
 reason-back : (r : Reason) → reasonOf (refusalOf r) ≡ r
 reason-back SheetTooLong = refl
@@ -34,6 +34,7 @@ reason-back Denominator = refl
 reason-back Numerator = refl
 reason-back Remainders = refl
 reason-back Buffer = refl
+reason-back Unresolved = refl
 
 abbrev answerOf : ℕ → Verdict
 answerOf zero = Accepted
@@ -56,6 +57,7 @@ answer-back (Refused Denominator) = refl
 answer-back (Refused Numerator) = refl
 answer-back (Refused Remainders) = refl
 answer-back (Refused Buffer) = refl
+answer-back (Refused Unresolved) = refl
 
 -- two answers with one number are the same answer
 pub same-answer : (v w : Verdict) → numberOf v ≡ numberOf w → v ≡ w
