@@ -1,6 +1,6 @@
 -- Demand 3, and the ranges of F and R that it brings.
 -- `f-low`, `f-high`: F is between 0 and 5,040,000,000,000,000,000, over any incidence whose equations hold.
--- `r-low`, `r-high`: R, likewise. `r-sweep`, `r-term`: its running sums, and the square of one pair.
+-- `close-high`: R of any rounding that is close to a fit. `r-low`, `r-high`: R, likewise. `r-sweep`, `r-term`: its running sums, and the square of one pair.
 -- `fit-minimum`, `fit-rounding`: demand 3 over any such incidence.
 -- `least`: what stands is a minimum, and its rounding is close to it. `r-range`: R of what stands.
 use mathlib.Core.Path.{refl, sym, subst, subst₂}
@@ -49,6 +49,32 @@ pairs-abs : (N b : ℕ) (f : ℕ × ℕ → ℤ) → N ≤ 64 → ((p : ℕ × �
 pairs-abs N b f few h = subst (λ y. natAbs y ≤ 2016 * b) (sweep-end f N)
     (sweep-within N b f few (λ p _ _. h p) N 0 (le-refl N) (omega arith) (inr refl))
 
+-- ---- R of a rounding that is close to a fit, over any incidence of few edges and distances in range
+module _ (K : ℕ) (d : ℕ × ℕ → ℤ) (few : K ≤ 125) (near : (p : ℕ × ℕ) → natAbs (d p) ≤ 50000) (parts : ℕ → ℕ × ℕ → Bool) (N : ℕ) (small : N ≤ 64) where
+  -- the sum of d², as X of lengths that are all 0: at most 2016 * 50000²
+  zero-X : natAbs (sumX (pairs N) K parts d (pos 1) (λ _. pos 0)) ≤ 5040000000000
+  zero-X = pairs-abs N 2500000000 (λ p. sq (remainder K parts d (pos 1) (λ _. pos 0) p)) small
+      (λ p. mul-abs (remainder K parts d (pos 1) (λ _. pos 0) p) (remainder K parts d (pos 1) (λ _. pos 0) p) 50000 50000 (one p) (one p))
+    where
+      one : (p : ℕ × ℕ) → natAbs (remainder K parts d (pos 1) (λ _. pos 0) p) ≤ 50000
+      one p = omega (
+        arith,
+        natAbs-sub (pos 1 *ℤ d p) (path K parts (λ _. pos 0) p),
+        mul-abs (pos 1) (d p) 1 50000 (omega arith) (near p),
+        path-abs K parts (λ _. pos 0) 0 few (λ v _. omega arith) p,
+      )
+
+  H-high : sumH (pairs N) K parts ≤ᶻ pos 31500000
+  H-high = abs→within 31500000 (sumH (pairs N) K parts) (subst (λ y. natAbs y ≤ 31500000) (sweep-end (λ p. sq (hops K parts p)) N)
+      (hops-sweep K parts few N small N 0 (le-refl N) (omega arith) (inr refl))) .high
+
+  pub close-high : (D : ℤ) (n m : ℕ → ℤ) → Rounding (pairs N) K parts d D n m Any → sumR (pairs N) K parts d m ≤ᶻ pos 5040000000007875000
+  close-high D n m close = cancel-4 (sumR (pairs N) K parts d m) X (sumH (pairs N) K parts)
+      (close .close (pos 1) (λ _. pos 0) record {}) (abs→within 5040000000000 X zero-X .high) H-high
+    where
+      X : ℤ
+      X = sumX (pairs N) K parts d (pos 1) (λ _. pos 0)
+
 -- ---- over any incidence
 module _ {K : ℕ} {d : ℕ × ℕ → ℤ} {D : ℕ} {n : ℕ → ℤ} (w : Bounds K d D n) (parts : ℕ → ℕ × ℕ → Bool) (N : ℕ) (small : N ≤ 64)
     (fit : Equations (pairs N) K parts d (pos D) n) where
@@ -64,30 +90,13 @@ module _ {K : ℕ} {d : ℕ × ℕ → ℤ} {D : ℕ} {n : ℕ → ℤ} (w : Bou
   pub fit-rounding : Rounding (pairs N) K parts d (pos D) n (λ v. nearest D (n v)) Any
   fit-rounding = rounding (pairs-sums N) K parts d (pos D) n fit (λ v. nearest D (n v)) some-D near
 
-  -- the sum of d², as X of lengths that are all 0: at most 2016 * 50000²
-  zero-X : natAbs (sumX (pairs N) K parts d (pos 1) (λ _. pos 0)) ≤ 5040000000000
-  zero-X = pairs-abs N 2500000000 (λ p. sq (remainder K parts d (pos 1) (λ _. pos 0) p)) small
-      (λ p. mul-abs (remainder K parts d (pos 1) (λ _. pos 0) p) (remainder K parts d (pos 1) (λ _. pos 0) p) 50000 50000 (one p) (one p))
-    where
-      one : (p : ℕ × ℕ) → natAbs (remainder K parts d (pos 1) (λ _. pos 0) p) ≤ 50000
-      one p = omega (
-        arith,
-        natAbs-sub (pos 1 *ℤ d p) (path K parts (λ _. pos 0) p),
-        mul-abs (pos 1) (d p) 1 50000 (omega arith) (w .distances p),
-        path-abs K parts (λ _. pos 0) 0 (w .few) (λ v _. omega arith) p,
-      )
-
-  H-high : sumH (pairs N) K parts ≤ᶻ pos 31500000
-  H-high = abs→within 31500000 (sumH (pairs N) K parts) (subst (λ y. natAbs y ≤ 31500000) (sweep-end (λ p. sq (hops K parts p)) N)
-      (hops-sweep K parts (w .few) N small N 0 (le-refl N) (omega arith) (inr refl))) .high
-
   -- D·F is a sum of squares
   pub f-low : pos 0 ≤ᶻ sumF (pairs N) K parts d (pos D) n
   f-low = *-cancel some-D (subst₂ _≤ᶻ_ (sym (*ℤ-zero (pos D))) (sym (fit-minimum .squares)) (S-sq (pairs-sums N) (remainder K parts d (pos D) n)))
 
   pub f-high : sumF (pairs N) K parts d (pos D) n ≤ᶻ pos 5040000000000000000
   f-high = ≤-trans (cancel-D (pos D) F X some-D (fit-minimum .least (pos 1) (λ _. pos 0) record {}))
-      (abs→within 5040000000000000000 (pos D *ℤ X) (mul-abs (pos D) X 1000000 5040000000000 (w .most) zero-X) .high)
+      (abs→within 5040000000000000000 (pos D *ℤ X) (mul-abs (pos D) X 1000000 5040000000000 (w .most) (zero-X K d (w .few) (w .distances) parts N small)) .high)
     where
       F : ℤ
       F = sumF (pairs N) K parts d (pos D) n
@@ -106,11 +115,7 @@ module _ {K : ℕ} {d : ℕ × ℕ → ℤ} {D : ℕ} {n : ℕ → ℤ} (w : Bou
   r-low = S-sq (pairs-sums N) (remainder K parts d (pos 1000) (λ v. nearest D (n v)))
 
   pub r-high : sumR (pairs N) K parts d (λ v. nearest D (n v)) ≤ᶻ pos 5040000000007875000
-  r-high = cancel-4 (sumR (pairs N) K parts d (λ v. nearest D (n v))) X (sumH (pairs N) K parts)
-      (fit-rounding .close (pos 1) (λ _. pos 0) record {}) (abs→within 5040000000000 X zero-X .high) H-high
-    where
-      X : ℤ
-      X = sumX (pairs N) K parts d (pos 1) (λ _. pos 0)
+  r-high = close-high K d (w .few) (w .distances) parts N small (pos D) n (λ v. nearest D (n v)) fit-rounding
 
   pub r-sweep : (j i : ℕ) → j < N → i ≤ j
       → natAbs (sweep (λ p. sq (remainder K parts d (pos 1000) (λ v. nearest D (n v)) p)) j i) ≤ 5040000000007875000

@@ -36,7 +36,7 @@ use Rattle.fitting.specs.Ready.{ReadyCase, CaseFits}
 use Rattle.fitting.proofs.Demand3 as demand3
 
 -- tables that agree below K have one path
-path-cong : {I : Type 0} (K : ℕ) (parts : ℕ → I → Bool) (x y : ℕ → ℤ) → ((v : ℕ) → v < K → x v ≡ y v) → (p : I) → path K parts x p ≡ path K parts y p
+pub path-cong : {I : Type 0} (K : ℕ) (parts : ℕ → I → Bool) (x y : ℕ → ℤ) → ((v : ℕ) → v < K → x v ≡ y v) → (p : I) → path K parts x p ≡ path K parts y p
 unfolding path
 path-cong K parts x y h p = sum-cong K (λ v l. ap (λ (z : ℤ). ind (parts v p) *ℤ z) (h v l))
 

@@ -77,8 +77,8 @@ module _ (N : ℕ) (ps : List ℕ) (t : Tree) (g : Grown N ps t) where
       }
 
 -- any quantity of a tree and a matrix that passed is that of the lists
-pub tree-moved : (N : ℕ) (ds ps : List ℕ) (m : Matrix) (t : Tree) → matrix.Held N ds m → Grown N ps t
-    → matrix-spec.Proper N ds → length ps ≤ 125 → (q : ℕ → ℕ → (ℕ → ℕ) → (ℕ × ℕ → ℤ) → ℤ)
+pub tree-moved : {A : Type 0} (N : ℕ) (ds ps : List ℕ) (m : Matrix) (t : Tree) → matrix.Held N ds m → Grown N ps t
+    → matrix-spec.Proper N ds → length ps ≤ 125 → (q : ℕ → ℕ → (ℕ → ℕ) → (ℕ × ℕ → ℤ) → A)
     → q (t .n) (t .edges) (parentOf (t .parents)) (distance (t .n) (m .distances)) ≡ q N (length ps) (parentOf ps) (distance N ds)
 tree-moved N ds ps m t h g proper few q =
     ap (λ (k : ℕ). q k (t .edges) (parentOf (t .parents)) (distance k (m .distances))) (g .strains)

@@ -149,7 +149,7 @@ pub fn judge(n: u32, distances: &[u16], parents: &[u8], d: u32, numerators: &[i6
 }
 
 // The first `edges` entries of a table, into a buffer of that size.
-fn copy_out(edges: usize, from: &[i64; Tree::MAX_EDGES], to: &mut [i64])
+pub fn copy_out(edges: usize, from: &[i64; Tree::MAX_EDGES], to: &mut [i64])
     requires { ⌜ (edges ≤ maxEdges) × (length (now to) ≡ edges) ⌝ }
     ensures { λ _. ⌜ now (to .exit) ≡ table edges (entryOf (now (from .entry))) ⌝ }
 {
@@ -170,7 +170,7 @@ fn no_lengths() -> [i64; Tree::MAX_EDGES]
 // so the steps of `edge_sums` are those of Bryant and Waddell (document 000): an outer edge has its
 // strain's row sum (equation 9); an inner edge has its children's split sums together, less twice the
 // distances between different children's clusters (equation 14, and 10 for two children).
-fn split(matrix: Matrix, tree: Tree) -> [i64; Tree::MAX_EDGES]
+pub fn split(matrix: Matrix, tree: Tree) -> [i64; Tree::MAX_EDGES]
     requires { ⌜ Standing (tree .n) (tree .edges) (tree .parents) (tree .clusters) ⌝ }
     requires { ⌜ ((k : ℕ) → getD (matrix .distances) k 0 ≤ maxDistance) ⌝ }
     ensures { λ r. ⌜ ((v : ℕ) → v < tree .edges → entryOf r v ≡ pairs (tree .n) (λ p. ind (partsPair (parentOf (tree .parents)) v p) *ℤ distance (tree .n) (matrix .distances) p)) ⌝ }

@@ -75,7 +75,7 @@ fn no_masks() -> [u64; Tree::MAX_VERTICES]
 }
 
 // How many children each vertex has: one pass in which each vertex counts at its parent.
-fn child_counts(parents: &[u8]) -> [u8; Tree::MAX_VERTICES]
+pub fn child_counts(parents: &[u8]) -> [u8; Tree::MAX_VERTICES]
     requires { ⌜ length (now parents) ≤ 125 ⌝ }
     requires { ⌜ ((v : ℕ) → v < length (now parents) → parentOf (now parents) v ≤ length (now parents)) ⌝ }
     ensures { λ r. ⌜ ((w : ℕ) → getD r w 0 ≡ children (length (now (parents .entry))) (parentOf (now (parents .entry))) w) ⌝ }
