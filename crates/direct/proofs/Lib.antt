@@ -1,3 +1,4 @@
+pub mod Divisors
 pub mod Children
 pub mod Quartet
 pub mod Star
@@ -9,3 +10,12 @@ pub mod Sizes
 pub mod Equations
 pub mod BySplits
 pub mod Ranges
+pub mod Listing
+pub mod Degrees
+pub mod Steps
+pub mod Around
+pub mod Reduced
+pub mod Lowering
+pub mod Fitted
+pub mod Answering
+pub mod Chosen

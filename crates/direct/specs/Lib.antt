@@ -3,3 +3,6 @@ pub mod Children
 pub mod Averages
 pub mod Formula
 pub mod Splits
+pub mod Tests
+pub mod Answers
+pub mod Tables

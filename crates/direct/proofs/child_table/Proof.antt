@@ -1,0 +1,140 @@
+-- After v turns the counts are those of the vertices below v, and each of those stands at its parent's place for it.
+use mathlib.Core.Path.{_≡_, sym, _∙_, ap, subst}
+use mathlib.Core.List.{List}
+use Prim.Native.Nat.{ℕ, _+_, _-_, _*_, _≤_, _<_}
+use native.Mathlib.Omega.{arith}
+use borrow.Author.Needs.{needs}
+use lib.ListN.{length, getD, set, length-set}
+use Rattle.exact.proofs.Fill.{length-table, getD-table-const}
+use Rattle.verdict.specs.Table.{count}
+use Rattle.tree.specs.Chain.{parentOf, kid}
+use Rattle.tree.proofs.Tally.{Tallied, tally-none, tally-more}
+use Rattle.direct.specs.Children.{childTo}
+use Rattle.direct.proofs.Listing.{Lists, lists-none, lists-more, room}
+use Rattle.direct.proofs.child_table.Statement.{statement}
+use Rattle.direct.proofs.child_table.Tie as tie
+
+abbrev Inv-loop : tie.InvT-loop
+Inv-loop n edges parents clusters listed₀ counts₀ v₀ listed counts v =
+    (v ≤ edges) × (length listed ≡ 378) × (length counts ≡ 126) × Tallied (parentOf parents) v counts × Lists (parentOf parents) v listed
+
+abbrev μ-loop : tie.MeasureT-loop
+μ-loop n edges parents clusters listed₀ counts₀ v₀ listed counts v = edges - v
+
+no-children-requires : tie.Need-no-children-requires Inv-loop μ-loop
+no-children-requires c κs = search needs
+
+no-counts-requires : tie.Need-no-counts-requires Inv-loop μ-loop
+no-counts-requires c κs = search needs
+
+loop-holds : tie.Need-loop-holds Inv-loop μ-loop
+loop-holds c = let e = c .before .no-children .ensures in let f = c .no-counts .ensures in
+    let par = parentOf (c .before .before .args .parents .now) in (
+      omega arith,
+      ap length e ∙ length-table 378 _,
+      ap length f ∙ length-table 126 _,
+      tally-none par (c .no-counts .result) (λ w. ap (λ (l : List ℕ). getD l w 0) f ∙ getD-table-const 126 0 w),
+      lists-none par (c .before .no-children .result) (λ k. ap (λ (l : List ℕ). getD l k 0) e ∙ getD-table-const 378 0 k),
+    )
+
+-- what is known at a turn
+module _ (c : tie.In-loop Inv-loop μ-loop) where
+  abbrev par : ℕ → ℕ
+  par = parentOf (c .before .before .before .before .args .parents .now)
+
+  abbrev v : ℕ
+  v = c .before .loop .v
+
+  edge : v < c .before .before .before .before .args .edges
+  edge = omega arith
+
+  few : c .before .before .before .before .args .edges ≤ 125
+  few = omega (arith, c .before .before .before .before .pre .0 .allowed .few, c .before .before .before .before .pre .0 .allowed .most)
+
+  top : par v ≤ 125
+  top = omega (arith, few, c .before .before .before .before .pre .0 .allowed .top v edge)
+
+  put : getD (c .before .loop .counts) (par v) 0 ≡ count v (kid par (par v))
+  put = c .before .loop .inv .3 (par v)
+
+  less : getD (c .before .loop .counts) (par v) 0 < 3
+  less = omega (
+    arith,
+    put,
+    room (c .before .before .before .before .args .n) (c .before .before .before .before .args .edges) par
+        (c .before .before .before .before .pre .0 .allowed) (c .before .before .before .before .pre .1) v edge,
+  )
+
+element-copy-out-p : tie.Need-element-copy-out-p Inv-loop μ-loop
+element-copy-out-p c = omega (arith, few c, edge c)
+
+cast-p : tie.Need-cast-p Inv-loop μ-loop
+cast-p c = record { fits = omega (arith, top (c .before)) }
+
+array-read-k : tie.Need-array-read-k Inv-loop μ-loop
+array-read-k c = omega (arith, top (c .before))
+
+cast-listed : tie.Need-cast-listed Inv-loop μ-loop
+cast-listed c = record { fits = omega (arith, few (c .before), edge (c .before)) }
+
+mul-listed : tie.Need-mul-listed Inv-loop μ-loop
+mul-listed c = record { fits = omega (arith, top (c .before)) }
+
+cast-listed-2 : tie.Need-cast-listed-2 Inv-loop μ-loop
+cast-listed-2 c = record { fits = omega (arith, less (c .before)) }
+
+add-listed : tie.Need-add-listed Inv-loop μ-loop
+add-listed c = record { fits = omega (arith, top (c .before), less (c .before)) }
+
+array-write-listed : tie.Need-array-write-listed Inv-loop μ-loop
+array-write-listed c = omega (arith, top (c .before), less (c .before))
+
+add-counts : tie.Need-add-counts Inv-loop μ-loop
+add-counts c = record { fits = omega (arith, less (c .before)) }
+
+array-write-counts : tie.Need-array-write-counts Inv-loop μ-loop
+array-write-counts c = omega (arith, top (c .before))
+
+add-v : tie.Need-add-v Inv-loop μ-loop
+add-v c = record { fits = omega (arith, few (c .before), edge (c .before)) }
+
+loop-less : tie.Need-loop-less Inv-loop μ-loop
+loop-less c = search needs
+
+loop-again : tie.Need-loop-again Inv-loop μ-loop
+loop-again c = let t = c .before in let l = t .before .loop .listed in let i = t .before .loop .inv in (
+  omega (arith, edge t),
+  simp length-set (i .1),
+  simp length-set (i .2),
+  tally-more (par t) (v t) (t .before .loop .counts) (omega (arith, top t, i .2)) (i .3),
+  subst (λ k. Lists (par t) (v t + 1) (set l (3 * par t (v t) + k) (v t))) (sym (put t)) (lists-more (par t) (v t) l (i .1) (top t) (subst (λ k. k < 3) (put t) (less t)) (i .4)),
+)
+
+returns : tie.Need-returns Inv-loop μ-loop
+returns c = let p = c .before .before .before .before in let i = c .before .loop .inv in
+    let e : c .before .loop .v ≡ p .args .edges = omega arith in
+    record { child = λ w k h l. subst (λ x. getD (c .before .loop .listed) (3 * w + k) 0 ≡ childTo (parentOf (p .args .parents .now)) w k x) e (i .4 w k (omega (arith, p .pre .0 .allowed .few, p .pre .0 .allowed .most)) l) }
+
+pub child-table-spec : {M : Type 1} → statement M
+child-table-spec =
+    tie.close
+    (tie.spec
+    Inv-loop
+    μ-loop
+    no-children-requires
+    no-counts-requires
+    loop-holds
+    element-copy-out-p
+    cast-p
+    array-read-k
+    cast-listed
+    mul-listed
+    cast-listed-2
+    add-listed
+    array-write-listed
+    add-counts
+    array-write-counts
+    add-v
+    loop-less
+    loop-again
+    returns)
