@@ -19,3 +19,5 @@ pub mod Lowering
 pub mod Fitted
 pub mod Answering
 pub mod Chosen
+pub mod Settled
+pub mod SheetA
