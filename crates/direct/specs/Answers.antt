@@ -100,3 +100,11 @@ pub record DirectAnswer (N : ℕ) (ds ps : List ℕ) (nb na : List ℤ) (eb ea :
   pub fit : directNumber N ds ps (length nb) (length eb) (length mb) ≡ 0 → Resolves N ds ps na ea ma x
   pub silent : (directNumber N ds ps (length nb) (length eb) (length mb) ≡ 0 → ⊥) → (x .r ≡ 0) × (x .h ≡ 0)
   pub kept : (directNumber N ds ps (length nb) (length eb) (length mb) ≡ 0 → ⊥) → (na ≡ nb) × (ea ≡ eb) × (ma ≡ mb)
+
+-- the same without R and H: the number, and the three buffers
+pub record LengthsAnswer (N : ℕ) (ds ps : List ℕ) (nb na : List ℤ) (eb ea : List ℕ) (mb ma : List ℤ) (r : ℕ) : Type 0 where
+  pub number : r ≡ directNumber N ds ps (length nb) (length eb) (length mb)
+  pub tops : directNumber N ds ps (length nb) (length eb) (length mb) ≡ 0 → na ≡ table (length ps) (topOf N ds ps)
+  pub bottoms : directNumber N ds ps (length nb) (length eb) (length mb) ≡ 0 → ea ≡ table (length ps) (bottomOf N ds ps)
+  pub rounded : directNumber N ds ps (length nb) (length eb) (length mb) ≡ 0 → ma ≡ table (length ps) (thousandthOf N ds ps)
+  pub kept : (directNumber N ds ps (length nb) (length eb) (length mb) ≡ 0 → ⊥) → (na ≡ nb) × (ea ≡ eb) × (ma ≡ mb)

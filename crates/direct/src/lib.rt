@@ -17,7 +17,7 @@ ghost use Rattle.direct.specs.Children.{Resolved, childOf, sibling, fart
 ghost use Rattle.direct.specs.Averages.{cluster, neither, size};
 ghost use Rattle.direct.specs.Splits.{twice, endOf, outerTop, outerBottom, innerTop, innerBottom};
 ghost use Rattle.direct.specs.Tables.{Listed, SplitSums, Known, Lowered, Sized, outerBy, innerBy, lengthBy};
-ghost use Rattle.direct.specs.Answers.{ReadyTree, Answered, DirectAnswer};
+ghost use Rattle.direct.specs.Answers.{ReadyTree, Answered, DirectAnswer, LengthsAnswer};
 
 // Room for three children of each vertex.
 const CHILD_ROOM: usize = 3 * Tree::MAX_VERTICES;
@@ -459,4 +459,21 @@ pub fn fit_resolved(
     let matrix = measured.matrix;
     let tree = planted.tree;
     answered(matrix, tree, numerators, denominators, rounded)
+}
+
+// The same for a program in C: the number, 0 where the tree is fitted.
+#[no_mangle]
+pub extern "C" fn resolved_lengths(
+    n: u32,
+    distances: &[u16],
+    parents: &[u8],
+    numerators: &mut [i64],
+    denominators: &mut [u32],
+    rounded: &mut [i64],
+) -> u32
+    ensures { λ r. ⌜ LengthsAnswer n (now (distances .entry)) (now (parents .entry)) (now (numerators .entry)) (now (numerators .exit)) (now (denominators .entry)) (now (denominators .exit)) (now (rounded .entry)) (now (rounded .exit)) r ⌝ }
+{
+    let found = fit_resolved(n, distances, parents, numerators, denominators, rounded);
+    let answer = found.verdict;
+    verdict::number(answer)
 }
