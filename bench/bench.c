@@ -2,17 +2,10 @@
  * library, a plain one-pass reading and the plain triple loop, all in this one program. Sheets are accepted
  * ones, so every equation is worked. Nothing is cleared between calls; each lends the same bytes. */
 #include <stdio.h>
-#include <string.h>
-#include <time.h>
 
 #include "plain.h"
+#include "trees.h"
 #include "vamuthexa.h"
-
-static double now(void) {
-    struct timespec t;
-    clock_gettime(CLOCK_MONOTONIC, &t);
-    return (double)t.tv_sec * 1e9 + (double)t.tv_nsec;
-}
 
 static volatile uint32_t kept;
 
@@ -41,47 +34,6 @@ static size_t put(uint8_t *at, uint64_t x, int bytes) {
         at[i] = (uint8_t)(x >> (8 * i));
     }
     return (size_t)bytes;
-}
-
-static uint64_t state = 88172645463325252u;
-
-static uint32_t chance(uint32_t below) {
-    state ^= state << 13;
-    state ^= state >> 7;
-    state ^= state << 17;
-    return (uint32_t)(state % below);
-}
-
-/* A resolved tree by joining two of the nodes that are left: the first two, the last two, or any. */
-static void grow(uint8_t parents[], uint32_t n, int shape) {
-    uint32_t nodes[64] = {0}, left = n, next = n;
-    for (uint32_t i = 0; i < n; i++) {
-        nodes[i] = i;
-    }
-    while (left > 3) {
-        uint32_t a = shape == 0 ? 0 : shape == 1 ? left - 2 : chance(left), b;
-        if (shape == 2) {
-            do {
-                b = chance(left);
-            } while (b == a);
-        } else {
-            b = a + 1;
-        }
-        parents[nodes[a]] = parents[nodes[b]] = (uint8_t)next;
-        if (shape == 0) { /* the joined pair goes to the back: level by level */
-            memmove(nodes, nodes + 2, (left - 2) * sizeof nodes[0]);
-            nodes[left - 2] = next++;
-        } else if (shape == 1) { /* the joined pair stays last: one strain more each time */
-            nodes[left - 2] = next++;
-        } else {
-            nodes[a] = next++;
-            nodes[b] = nodes[left - 1];
-        }
-        left--;
-    }
-    for (uint32_t i = 0; i < 3; i++) {
-        parents[nodes[i]] = (uint8_t)next;
-    }
 }
 
 /* An accepted sheet: whole lengths, and their paths as distances. */
@@ -128,7 +80,6 @@ static size_t write_sheet(uint32_t n, int shape, uint8_t *out) {
 }
 
 int main(void) {
-    static const char *const shapes[] = {"balanced", "caterpillar", "random"};
     static uint8_t sheet[8192];
     printf("| N | tree | ours, ns | one pass, ns | triple loop, ns | ours / one pass | ours / triple loop |\n");
     printf("|---|---|---|---|---|---|---|\n");
