@@ -3,7 +3,7 @@ use mathlib.Core.Path.{_≡_, refl}
 use mathlib.Core.List.{List, [], _∷_}
 use Prim.Native.Nat.{ℕ}
 use lib.IntN.{pos, negsuc}
-use lib.ListN.{length}
+use lib.ListN.{length, take}
 use Rattle.exact.specs.Sum.{sum, pairs, ind}
 use Rattle.exact.specs.Table.{tableFrom}
 use Rattle.exact.specs.LeastSquares.{path}
@@ -11,9 +11,9 @@ use Rattle.verdict.specs.Table.{some, count}
 use Rattle.matrix.specs.Place.{rowStart, place}
 use Rattle.tree.specs.Chain.{lift, below, parts}
 use Rattle.sheet.specs.Bytes.{number, twos}
-use Rattle.sheet.specs.Form.{formNumber}
+use Rattle.sheet.specs.Form.{formNumber, bareForm}
 use Rattle.sheet.specs.Holds.{strainsOf, distancesOf, treeStrainsOf, parentsOf, denominatorOf, numeratorsOf}
-use Rattle.sheet.specs.Tests.{sheetNumber}
+use Rattle.sheet.specs.Tests.{bareNumber, sheetNumber}
 
 -- three heads, each with its body
 abbrev pub sheetA : List ℕ
@@ -61,6 +61,18 @@ numerators = refl
 pub accepted : sheetNumber sheetA ≡ 0
 unfolding sum pairs ind tableFrom path some count rowStart place lift below parts number
 accepted = refl
+
+-- its first two records: a sheet without lengths. The whole sheet is none, since bytes are left.
+abbrev pub bareA : List ℕ
+bareA = take 35 sheetA
+
+pub bare-accepted : (bareForm bareA ≡ 0) × (bareNumber bareA ≡ 0) × (bareForm sheetA ≡ 5)
+unfolding tableFrom some number
+bare-accepted = (refl, refl, refl)
+
+pub same-front : (distancesOf bareA ≡ distancesOf sheetA) × (parentsOf bareA ≡ parentsOf sheetA)
+unfolding tableFrom number
+same-front = (refl, refl)
 
 -- eight bytes of a number below zero
 pub below-zero : twos (number 8 (253 ∷ 255 ∷ 255 ∷ 255 ∷ 255 ∷ 255 ∷ 255 ∷ 255 ∷ []) 0) ≡ negsuc 2

@@ -4,6 +4,7 @@ pub mod InTurn
 pub mod Decoding
 pub mod Fronts
 pub mod Formed
+pub mod WithoutLengths
 pub mod Accepted
 pub mod Readable
 pub mod Example

@@ -1,4 +1,5 @@
--- The form of a sheet: three records, each with a four-byte length of its body, a two-byte kind and the body.
+-- The form of a sheet: three records, or two in a sheet without lengths, each with a four-byte length of its body, a two-byte kind
+-- and the body.
 -- 1 matrix: N (2), distances (2 each). 2 tree: N (2), V (2), parents (1 each). 3 lengths: D (4), K (2), numerators (8 each).
 use mathlib.Core.Bool.{Bool, not, _||_}
 use mathlib.Core.List.{List}
@@ -52,7 +53,7 @@ headNumber s at kind = test 2 (headCut s at) orElse test 2 (bodyCut s at) orElse
 abbrev pub recordNumber : List ℕ → ℕ → ℕ → Bool → ℕ
 recordNumber s at kind badCounts = headNumber s at kind orElse test 4 badCounts
 
--- where the second and the third record start, and where the third ends
+-- where the second and the third record start, and where the third ends; a sheet without lengths ends where they would start
 abbrev pub treeAt : List ℕ → ℕ
 treeAt s = 6 + sizeAt s 0
 
@@ -62,11 +63,23 @@ lengthsAt s = treeAt s + 6 + sizeAt s (treeAt s)
 abbrev pub endAt : List ℕ → ℕ
 endAt s = lengthsAt s + 6 + sizeAt s (lengthsAt s)
 
--- the form of the whole sheet: 1; 2, 3, 4 for each record in turn; 5
-abbrev pub formNumber : List ℕ → ℕ
-formNumber s =
+-- the front that both forms share: 1; 2, 3, 4 for the matrix, then for the tree; then the rest
+abbrev pub frontThen : List ℕ → ℕ → ℕ
+frontThen s rest =
     test 1 (ltb maxSheet (length s))
     orElse recordNumber s 0 1 (matrixForm s 0)
     orElse recordNumber s (treeAt s) 2 (treeForm s (treeAt s))
-    orElse recordNumber s (lengthsAt s) 3 (lengthsForm s (lengthsAt s))
-    orElse test 5 (ltb (endAt s) (length s))
+    orElse rest
+
+-- the front alone
+abbrev pub frontNumber : List ℕ → ℕ
+frontNumber s = frontThen s 0
+
+-- the form of the whole sheet: 2, 3, 4 for the lengths behind the front; 5
+abbrev pub formNumber : List ℕ → ℕ
+formNumber s =
+    frontThen s (recordNumber s (lengthsAt s) 3 (lengthsForm s (lengthsAt s)) orElse test 5 (ltb (endAt s) (length s)))
+
+-- the form of a sheet without lengths: nothing stands behind the front
+abbrev pub bareForm : List ℕ → ℕ
+bareForm s = frontThen s (test 5 (ltb (lengthsAt s) (length s)))

@@ -36,10 +36,11 @@ abbrev pub numeratorsOf : List ℕ → List ℤ
 numeratorsOf s = table (edgesOf s) (λ k. twos (number 8 s (bodyAt (lengthsAt s) + 6 + 8 * k)))
 
 -- ---- arrays that are large enough
--- the three heads and the counts take 30 bytes: at most so many distances, or so many numerators, fit a sheet
+-- without lengths, the two heads and the counts take 18 bytes: at most so many distances fit a sheet
 abbrev pub mostDistances : ℕ
-mostDistances = (maxSheet - 30) / 2
+mostDistances = (maxSheet - 18) / 2
 
+-- with them, the three heads and the counts take 30: at most so many numerators fit
 abbrev pub mostNumerators : ℕ
 mostNumerators = (maxSheet - 30) / 8
 

@@ -3,4 +3,5 @@ pub mod Form
 pub mod Holds
 pub mod Laid
 pub mod Tests
+pub mod Bare
 pub mod Reads

@@ -1,5 +1,5 @@
 // A sheet of bytes, and the number that it gets. A sheet is three records, one behind the other, and nothing
-// else; every number in it has its lowest byte first.
+// else; a sheet without lengths is the first two. Every number in it has its lowest byte first.
 //   record   = length of the body (4 bytes), kind (2), body
 //   matrix   = kind 1: N (2), then the N(N-1)/2 distances (2 each)
 //   tree     = kind 2: N (2), V (2), then the V-1 parents (1 each)
@@ -18,25 +18,38 @@ ghost use Rattle.exact.specs.Table.{table};
 ghost use Rattle.verdict.specs.Number.{numberOf, test, _orElse_};
 ghost use Rattle.matrix.specs.Tests.{matrixNumber};
 ghost use Rattle.sheet.specs.Bytes.{number, twos};
-ghost use Rattle.sheet.specs.Form.{sizeAt, headNumber, recordNumber, matrixForm, treeForm, lengthsForm, treeAt, lengthsAt, formNumber};
+ghost use Rattle.sheet.specs.Form.{sizeAt, headNumber, recordNumber, matrixForm, treeForm, lengthsForm, treeAt, lengthsAt, frontNumber, formNumber, bareForm};
 ghost use Rattle.sheet.specs.Holds.{mostDistances, mostNumerators, padded};
 ghost use Rattle.sheet.specs.Laid.{LayoutAnswer};
-ghost use Rattle.sheet.specs.Tests.{heldNumber, sheetNumber};
+ghost use Rattle.sheet.specs.Tests.{frontHeld, heldNumber, sheetNumber};
+ghost use Rattle.sheet.specs.Bare.{BareHeld, BareAnswer};
 ghost use Rattle.sheet.specs.Reads.{SheetFit, SheetReport};
 
 // The most bytes of a sheet.
 const MAX_SHEET: usize = 5_187;
 
-// The three heads and the counts take 30 bytes: at most so many distances, or so many numerators, fit a sheet.
-const MAX_HELD_DISTANCES: usize = (MAX_SHEET - 30) / 2;
+// Without lengths, the two heads and the counts take 18 bytes: at most so many distances fit a sheet.
+const MAX_HELD_DISTANCES: usize = (MAX_SHEET - 18) / 2;
 
+// With them, the three heads and the counts take 30: at most so many numerators fit.
 const MAX_HELD_NUMERATORS: usize = (MAX_SHEET - 30) / 8;
 
-// Where the records behind the first start, in a sheet of the form.
+// Where the tree's record starts, and where it ends and lengths may start, in a sheet of the form.
 struct Layout {
     verdict: Verdict,
     tree: usize,
     lengths: usize,
+}
+
+// What a sheet without lengths holds: N and the distances, then zeros, of its matrix; where the parents of its
+// tree start and end. Its answer comes before the tree's own.
+pub struct Bare {
+    pub verdict: Verdict,
+    pub strains: u32,
+    pub pairs: usize,
+    pub distances: [u16; MAX_HELD_DISTANCES],
+    pub parents: usize,
+    pub end: usize,
 }
 
 // A byte as a wider number.
@@ -215,9 +228,9 @@ fn refused(reason: Reason) -> Layout
     }
 }
 
-// The form: 1; 2, 3, 4 for each record in turn; 5.
-fn records(s: &[u8]) -> Layout
-    ensures { λ r. ⌜ LayoutAnswer (now (s .entry)) r ⌝ }
+// The matrix and the tree of a sheet: 1; 2, 3, 4 for each in turn. What follows them may be lengths.
+fn front(s: &[u8]) -> Layout
+    ensures { λ r. ⌜ LayoutAnswer (frontNumber (now (s .entry))) (now (s .entry)) r ⌝ }
 {
     if s.len() > MAX_SHEET {
         return refused(Reason::SheetTooLong);
@@ -231,18 +244,54 @@ fn records(s: &[u8]) -> Layout
     if let Verdict::Refused(reason) = of_tree {
         return refused(reason);
     }
-    let lengths = behind(s, tree);
-    let of_lengths = lengths_record(s, lengths);
+    Layout {
+        verdict: Verdict::Accepted,
+        tree,
+        lengths: behind(s, tree),
+    }
+}
+
+// The form of a sheet of three records: the front; 2, 3, 4 for the lengths; 5.
+fn records(s: &[u8]) -> Layout
+    ensures { λ r. ⌜ LayoutAnswer (formNumber (now (s .entry))) (now (s .entry)) r ⌝ }
+{
+    let laid = front(s);
+    let of_front = laid.verdict;
+    if let Verdict::Refused(reason) = of_front {
+        return refused(reason);
+    }
+    let at = laid.lengths;
+    let of_lengths = lengths_record(s, at);
     if let Verdict::Refused(reason) = of_lengths {
         return refused(reason);
     }
-    if behind(s, lengths) < s.len() {
+    if behind(s, at) < s.len() {
         return refused(Reason::BytesLeft);
     }
     Layout {
         verdict: Verdict::Accepted,
-        tree,
-        lengths,
+        tree: laid.tree,
+        lengths: at,
+    }
+}
+
+// The form of a sheet without lengths: the front; 5.
+fn bare_records(s: &[u8]) -> Layout
+    ensures { λ r. ⌜ LayoutAnswer (bareForm (now (s .entry))) (now (s .entry)) r ⌝ }
+{
+    let laid = front(s);
+    let of_front = laid.verdict;
+    if let Verdict::Refused(reason) = of_front {
+        return refused(reason);
+    }
+    let end = laid.lengths;
+    if end < s.len() {
+        return refused(Reason::BytesLeft);
+    }
+    Layout {
+        verdict: Verdict::Accepted,
+        tree: laid.tree,
+        lengths: end,
     }
 }
 
@@ -294,13 +343,23 @@ fn numerators(s: &[u8], at: usize, count: usize) -> [i64; MAX_HELD_NUMERATORS]
     held
 }
 
-// 6, 7, then 8: the tree is not for as many strains as the matrix.
-fn strains_differ(n: u32, distances: &[u16]) -> Verdict
-    ensures { λ r. ⌜ numberOf r ≡ (matrixNumber n (now (distances .entry)) orElse 8) ⌝ }
+// 8 where the tree is not for as many strains as the matrix.
+fn strains_differ(apart: bool) -> Verdict
+    ensures { λ r. ⌜ numberOf r ≡ test 8 apart ⌝ }
+{
+    if apart {
+        return Verdict::Refused(Reason::Vertices);
+    }
+    Verdict::Accepted
+}
+
+// 6, 7, then 8: the matrix, then whether the tree is for other strains.
+fn matrix_for(n: u32, distances: &[u16], apart: bool) -> Verdict
+    ensures { λ r. ⌜ numberOf r ≡ (matrixNumber n (now (distances .entry)) orElse test 8 apart) ⌝ }
 {
     let measured = Matrix::new(n, distances);
     let of_matrix = measured.verdict;
-    verdict::or_else(of_matrix, Verdict::Refused(Reason::Vertices))
+    verdict::or_else(of_matrix, strains_differ(apart))
 }
 
 // 6 to 14: what the records of a sheet of the form hold.
@@ -313,7 +372,7 @@ fn held(s: &[u8], tree: usize, lengths: usize) -> Verdict
     let measured = distances(s, pairs);
     let body = tree + 6;
     if u16_at(s, body) as u32 != n {
-        return strains_differ(n, &measured[..pairs]);
+        return matrix_for(n, &measured[..pairs], true);
     }
     let parents = body + 4;
     let last = lengths + 6;
@@ -340,6 +399,47 @@ pub fn sheet_judge(s: &[u8]) -> Verdict
     match of_form {
         Verdict::Refused(reason) => Verdict::Refused(reason),
         Verdict::Accepted => held(s, tree, lengths),
+    }
+}
+
+// The matrix and the places of a sheet whose form without lengths stands: 6, 7, 8.
+fn bare_held(s: &[u8], tree: usize, end: usize) -> Bare
+    requires { ⌜ (bareForm (now s) ≡ 0) × (tree ≡ treeAt (now s)) × (end ≡ lengthsAt (now s)) ⌝ }
+    ensures { λ r. ⌜ numberOf (r .verdict) ≡ frontHeld (now (s .entry)) ⌝ }
+    ensures { λ r. ⌜ BareHeld (now (s .entry)) r ⌝ }
+{
+    let n = u16_at(s, 6) as u32;
+    let pairs = matrix::pair_count(n) as usize;
+    let measured = distances(s, pairs);
+    let body = tree + 6;
+    let apart = u16_at(s, body) as u32 != n;
+    let verdict = matrix_for(n, &measured[..pairs], apart);
+    Bare {
+        verdict,
+        strains: n,
+        pairs,
+        distances: measured,
+        parents: body + 4,
+        end,
+    }
+}
+
+// What a sheet without lengths holds: 1 to 8, the first that applies.
+pub fn bare_sheet(s: &[u8]) -> Bare
+    ensures { λ r. ⌜ BareAnswer (now (s .entry)) r ⌝ }
+{
+    let laid = bare_records(s);
+    let of_form = laid.verdict;
+    match of_form {
+        Verdict::Refused(reason) => Bare {
+            verdict: Verdict::Refused(reason),
+            strains: 0,
+            pairs: 0,
+            distances: no_distances(),
+            parents: 0,
+            end: 0,
+        },
+        Verdict::Accepted => bare_held(s, laid.tree, laid.lengths),
     }
 }
 

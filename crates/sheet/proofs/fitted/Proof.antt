@@ -12,7 +12,7 @@ use Rattle.sheet.specs.Holds.{mostDistances, mostNumerators}
 use Rattle.sheet.specs.Tests.{sheetNumber}
 use Rattle.sheet.proofs.Decoding.{front-there, front-length}
 use Rattle.sheet.proofs.Fronts.{part-there, part-again, part-size, part-few}
-use Rattle.sheet.proofs.Formed.{Formed, formed, pairs-fit, distances-are, parents-start, parents-end, parents-are, numerators-are}
+use Rattle.sheet.proofs.Formed.{Formed, formed, pairs-fit, distances-are, parents-start, parents-are, numerators-are}
 use Rattle.sheet.proofs.Accepted.{ReadAs, form-zero, edges-few, fit-accepted, fit-size, sheet-fit}
 use borrow.Author.Needs.{needs}
 use Rattle.sheet.proofs.fitted.Statement.{statement}
@@ -28,7 +28,7 @@ here : (c : tie.After-shared-slice-known) → Formed (bytes c) (c .before .args 
 here c = formed (bytes c) _ _ (form-zero (bytes c) (accepted c)) (c .before .pre .0 .1) (c .before .pre .0 .2)
 
 few : (c : tie.After-pair-count) → c .pair-count .result ≤ mostDistances
-few c = pairs-fit (here (c .before .before)) _ _ (c .before .u16-at .ensures) (c .pair-count .ensures) .0
+few c = pairs-fit (here (c .before .before) .front) _ _ (c .before .u16-at .ensures) (c .pair-count .ensures) .0
 
 few-edges : (c : tie.After-u16-at2) → c .u16-at2 .result ≤ 125
 few-edges c =
@@ -46,9 +46,9 @@ read-as c =
     let w = here start in
     record {
       strains = head .u16-at .ensures;
-      distances = distances-are w _ _ _ (head .u16-at .ensures) (c .before .before .before .before .before .pair-count .ensures) (c .before .before .before .before .distances .ensures);
-      parents = parents-are w;
-      denominator = c .before .before .before .u32-at .ensures ∙ ap (λ (a : ℕ). number 4 (bytes start) (a + 6)) (w .lengths-at);
+      distances = distances-are (w .front) _ _ _ (head .u16-at .ensures) (c .before .before .before .before .before .pair-count .ensures) (c .before .before .before .before .distances .ensures);
+      parents = parents-are (w .front);
+      denominator = c .before .before .before .u32-at .ensures ∙ ap (λ (a : ℕ). number 4 (bytes start) (a + 6)) (w .front .lengths-at);
       numerators = numerators-are w _ _ (c .before .before .u16-at2 .ensures) (c .before .numerators .ensures);
     }
 
@@ -71,7 +71,7 @@ after-size c =
     fit-size (bytes start) (accepted start) (read-as read) (c .report .ensures) (lent read ∙ numerators-size read) ∙ sym (numerators-size read)
 
 u16-at-requires : tie.Need-u16-at-requires
-u16-at-requires c κs = let w = here c in omega (arith, w .matrix, w .tree, w .ends)
+u16-at-requires c κs = let w = here c in omega (arith, w .front .matrix, w .front .tree, w .ends)
 
 cast-n : tie.Need-cast-n
 cast-n c = search needs
@@ -80,22 +80,22 @@ pair-count-requires : tie.Need-pair-count-requires
 pair-count-requires c κs = search needs
 
 distances-requires : tie.Need-distances-requires
-distances-requires c κs = pairs-fit (here (c .before .before)) _ _ (c .before .u16-at .ensures) (c .pair-count .ensures)
+distances-requires c κs = pairs-fit (here (c .before .before) .front) _ _ (c .before .u16-at .ensures) (c .pair-count .ensures)
 
 add-parents : tie.Need-add-parents
-add-parents c = let w = here (c .before .before .before) in record { fits = omega (arith, w .tree, w .ends, w .short) }
+add-parents c = let w = here (c .before .before .before) in record { fits = omega (arith, w .front .tree, w .ends, w .front .short) }
 
 add-parents-2 : tie.Need-add-parents-2
-add-parents-2 c = let w = here (c .before .before .before) in record { fits = omega (arith, w .tree, w .ends, w .short) }
+add-parents-2 c = let w = here (c .before .before .before) in record { fits = omega (arith, w .front .tree, w .ends, w .front .short) }
 
 add-last : tie.Need-add-last
-add-last c = let w = here (c .before .before .before) in record { fits = omega (arith, w .tree, w .ends, w .short) }
+add-last c = let w = here (c .before .before .before) in record { fits = omega (arith, w .front .tree, w .ends, w .front .short) }
 
 u32-at-requires : tie.Need-u32-at-requires
 u32-at-requires c κs = let w = here (c .before .before .before) in omega (arith, w .ends)
 
 add-u16-at : tie.Need-add-u16-at
-add-u16-at c = let w = here (c .before .before .before .before) in record { fits = omega (arith, w .ends, w .short) }
+add-u16-at c = let w = here (c .before .before .before .before) in record { fits = omega (arith, w .ends, w .front .short) }
 
 u16-at-requires-2 : tie.Need-u16-at-requires-2
 u16-at-requires-2 c κs = let w = here (c .before .before .before .before) in omega (arith, w .ends)
@@ -104,7 +104,7 @@ cast-edges : tie.Need-cast-edges
 cast-edges c = search needs
 
 add-numerators : tie.Need-add-numerators
-add-numerators c = let w = here (c .before .before .before .before .before) in record { fits = omega (arith, w .ends, w .short) }
+add-numerators c = let w = here (c .before .before .before .before .before) in record { fits = omega (arith, w .ends, w .front .short) }
 
 numerators-requires : tie.Need-numerators-requires
 numerators-requires c κs = let w = here (c .before .before .before .before .before) in (omega (arith, few-edges c), omega (arith, w .ends, c .u16-at2 .ensures))
@@ -121,13 +121,13 @@ slice-aggregate-report : tie.Need-slice-aggregate-report
 slice-aggregate-report c = front-length 0 mostDistances _ _ _ (c .before .before .before .before .before .distances .ensures)
 
 sub-report : tie.Need-sub-report
-sub-report c = let w = here (c .before .before .before .before .before .before .before .before) in omega (arith, w .tree)
+sub-report c = let w = here (c .before .before .before .before .before .before .before .before) in omega (arith, w .front .tree)
 
 part-report-start : tie.Need-part-report-start
-part-report-start c = parents-start (here (c .before .before .before .before .before .before .before .before))
+part-report-start c = parents-start (here (c .before .before .before .before .before .before .before .before) .front)
 
 part-report-end : tie.Need-part-report-end
-part-report-end c = parents-end (here (c .before .before .before .before .before .before .before .before))
+part-report-end c = here (c .before .before .before .before .before .before .before .before) .front .there
 
 array-share-prefix-proposed : tie.Need-array-share-prefix-proposed
 array-share-prefix-proposed c =

@@ -1,39 +1,42 @@
--- Each record is finished before the next is looked at; the first refusal is the answer.
+-- The front is finished before the lengths are looked at; the first refusal is the answer.
 use mathlib.Core.List.{List}
 use Prim.Native.Nat.{ℕ}
-use Rattle.sheet.proofs.InTurn.{PastMatrix, PastTree, PastLengths, too-long, matrix-refused, tree-refused, lengths-refused, matrix-passed, tree-passed, lengths-passed, matrix-there, tree-there, lengths-there, bytes-left, all-read}
+use Rattle.sheet.proofs.InTurn.{PastFront, PastLengths, front-refused, front-passed, front-there, lengths-refused, lengths-passed, lengths-there, bytes-left, all-read}
 use borrow.Author.Needs.{needs}
 use Rattle.sheet.proofs.records.Statement.{statement}
 use Rattle.sheet.proofs.records.Tie as tie
 
-abbrev bytes : tie.After-matrix-record → List ℕ
-bytes c = c .before .before .before .args .s .now
+abbrev bytes : tie.After-front → List ℕ
+bytes c = c .before .before .args .s .now
 
-past-matrix : (c : tie.After-enum-told) → PastMatrix (bytes (c .before .before))
-past-matrix c = matrix-passed _ (c .enum-told .given .1) (c .before .before .before .if1 .left) (c .before .before .matrix-record .ensures)
+past-front : (c : tie.After-enum-told) → PastFront (bytes (c .before .before)) (c .before .before .front .result .tree) (c .before .before .front .result .lengths)
+past-front c = front-passed _ (c .enum-told .given .1) (c .before .before .front .ensures)
 
-past-tree : (c : tie.After-enum-told2) → PastTree (bytes (c .before .before .before .before .before .before)) (c .before .before .before .behind .result)
-past-tree c =
-    let begun = c .before .before in
-    tree-passed _ (c .enum-told2 .given .1) (past-matrix (begun .before .before)) (begun .before .behind .ensures) (begun .tree-record .ensures)
+past-lengths : (c : tie.After-enum-told2)
+    → let read = c .before .before .before .before .before in
+    PastLengths (bytes read) (read .front .result .tree) (read .front .result .lengths)
+past-lengths c = lengths-passed _ (c .enum-told2 .given .1) (past-front (c .before .before .before)) (c .before .before .lengths-record .ensures)
 
-past-lengths : (c : tie.After-enum-told3)
-    → PastLengths (bytes (c .before .before .before .before .before .before .before .before .before .before)) (c .before .before .before .before .before .before .before .behind .result) (c .before .before .before .behind2 .result)
-past-lengths c =
-    let begun = c .before .before in
-    lengths-passed _ (c .enum-told3 .given .1) (past-tree (begun .before .before)) (begun .before .behind2 .ensures) (begun .lengths-record .ensures)
+front-requires : tie.Need-front-requires
+front-requires c κs = search needs
+
+enum-known-of-front : tie.Need-enum-known-of-front
+enum-known-of-front c = search needs
 
 refused-requires : tie.Need-refused-requires
 refused-requires c κs = search needs
 
 returns : tie.Need-returns
-returns c = too-long (c .before .if1 .taken) (c .refused .ensures)
+returns c = front-refused _ _ (c .before .before .of-front .given .1) _ (c .before .before .before .before .front .ensures .number) (c .refused .ensures)
 
-matrix-record-requires : tie.Need-matrix-record-requires
-matrix-record-requires c κs = search needs
+enum-told : tie.Need-enum-told
+enum-told c = search needs
 
-enum-known-of-matrix : tie.Need-enum-known-of-matrix
-enum-known-of-matrix c = search needs
+lengths-record-requires : tie.Need-lengths-record-requires
+lengths-record-requires c κs = front-there (past-front c)
+
+enum-known-of-lengths : tie.Need-enum-known-of-lengths
+enum-known-of-lengths c = search needs
 
 refused-requires-2 : tie.Need-refused-requires-2
 refused-requires-2 c κs = search needs
@@ -41,87 +44,38 @@ refused-requires-2 c κs = search needs
 returns-2 : tie.Need-returns-2
 returns-2 c =
     let begun = c .before .before .before .before in
-    matrix-refused _ _ (c .before .before .of-matrix .given .1) (begun .before .if1 .left) (begun .matrix-record .ensures) (c .refused2 .ensures)
+    lengths-refused (past-front (begun .before)) _ _ (c .before .before .of-lengths .given .1) (begun .lengths-record .ensures) (c .refused2 .ensures)
 
-enum-told : tie.Need-enum-told
-enum-told c = search needs
+enum-told-2 : tie.Need-enum-told-2
+enum-told-2 c = search needs
 
 behind-requires : tie.Need-behind-requires
-behind-requires c κs = matrix-there (past-matrix c)
-
-tree-record-requires : tie.Need-tree-record-requires
-tree-record-requires c κs = rw (c .behind .ensures) (matrix-there (past-matrix (c .before)))
-
-enum-known-of-tree : tie.Need-enum-known-of-tree
-enum-known-of-tree c = search needs
+behind-requires c κs = lengths-there (past-lengths c)
 
 refused-requires-3 : tie.Need-refused-requires-3
 refused-requires-3 c κs = search needs
 
 returns-3 : tie.Need-returns-3
-returns-3 c =
-    let begun = c .before .before .before .before in
-    tree-refused _ _ (c .before .before .of-tree .given .1) _ (past-matrix (begun .before .before)) (begun .before .behind .ensures) (begun .tree-record .ensures) (c .refused3 .ensures)
-
-enum-told-2 : tie.Need-enum-told-2
-enum-told-2 c = search needs
-
-behind-requires-2 : tie.Need-behind-requires-2
-behind-requires-2 c κs = tree-there (past-tree c)
-
-lengths-record-requires : tie.Need-lengths-record-requires
-lengths-record-requires c κs = rw (c .behind2 .ensures) (tree-there (past-tree (c .before)))
-
-enum-known-of-lengths : tie.Need-enum-known-of-lengths
-enum-known-of-lengths c = search needs
-
-refused-requires-4 : tie.Need-refused-requires-4
-refused-requires-4 c κs = search needs
+returns-3 c = bytes-left (past-lengths (c .before .before .before)) _ (c .before .before .behind .ensures) (c .before .if1 .taken) (c .refused3 .ensures)
 
 returns-4 : tie.Need-returns-4
-returns-4 c =
-    let begun = c .before .before .before .before in
-    lengths-refused _ _ (c .before .before .of-lengths .given .1) _ _ (past-tree (begun .before .before)) (begun .before .behind2 .ensures) (begun .lengths-record .ensures) (c .refused4 .ensures)
-
-enum-told-3 : tie.Need-enum-told-3
-enum-told-3 c = search needs
-
-behind-requires-3 : tie.Need-behind-requires-3
-behind-requires-3 c κs = lengths-there (past-lengths c)
-
-refused-requires-5 : tie.Need-refused-requires-5
-refused-requires-5 c κs = search needs
-
-returns-5 : tie.Need-returns-5
-returns-5 c = bytes-left (past-lengths (c .before .before .before)) _ (c .before .before .behind3 .ensures) (c .before .if2 .taken) (c .refused5 .ensures)
-
-returns-6 : tie.Need-returns-6
-returns-6 c = all-read (past-lengths (c .before .before)) _ (c .before .behind3 .ensures) (c .if2 .left)
+returns-4 c = all-read (past-lengths (c .before .before)) _ (c .before .behind .ensures) (c .if1 .left)
 
 pub records-spec : {M : Type 1} → statement M
 records-spec =
     tie.close
     (tie.spec
+    front-requires
+    enum-known-of-front
     refused-requires
     returns
-    matrix-record-requires
-    enum-known-of-matrix
-    refused-requires-2
-    returns-2
     enum-told
-    behind-requires
-    tree-record-requires
-    enum-known-of-tree
-    refused-requires-3
-    returns-3
-    enum-told-2
-    behind-requires-2
     lengths-record-requires
     enum-known-of-lengths
-    refused-requires-4
-    returns-4
-    enum-told-3
-    behind-requires-3
-    refused-requires-5
-    returns-5
-    returns-6)
+    refused-requires-2
+    returns-2
+    enum-told-2
+    behind-requires
+    refused-requires-3
+    returns-3
+    returns-4)
