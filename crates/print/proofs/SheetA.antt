@@ -1,11 +1,11 @@
--- The checker computes the print of sheet A from the definitions: nine lines, and one for a refusal.
+-- The checker computes the print of sheet A from the definitions: nine lines, seven of its resolved tree, and one for a refusal.
 use mathlib.Core.Path.{_≡_, refl}
 use mathlib.Core.List.{List, [], _∷_, _++_}
 use Prim.Native.Nat.{ℕ}
 use lib.IntN.{pos}
 use lib.ListN.{getD}
 use Rattle.text.specs.Text.{digits}
-use Rattle.print.specs.Lines.{refusedLine, fitLine, edgeLine, edgeLines, lengthLine, squareLine, meanLine, fitText}
+use Rattle.print.specs.Lines.{refusedLine, fitLine, edgeLine, edgeLines, lengthLine, squareLine, meanLine, fitText, resolvedLine, fractionLine, fractionLines, roundedLine, resolvedText}
 
 -- "fit 4 5 2", five edges, "length 23", "square 2 1000000 44", "mean 2 12", each with its LF, as bytes
 abbrev pub sheet-a : List ℕ
@@ -29,3 +29,20 @@ print-of-a = refl
 pub print-of-refusal : refusedLine 14 ≡ 114 ∷ 101 ∷ 102 ∷ 117 ∷ 115 ∷ 101 ∷ 100 ∷ 32 ∷ 49 ∷ 52 ∷ 10 ∷ []
 unfolding digits refusedLine
 print-of-refusal = refl
+
+-- "resolved 4 5", five edges, "square 1000000 44"
+abbrev pub tree-a : List ℕ
+tree-a =
+    (114 ∷ 101 ∷ 115 ∷ 111 ∷ 108 ∷ 118 ∷ 101 ∷ 100 ∷ 32 ∷ 52 ∷ 32 ∷ 53 ∷ 10 ∷ [])
+    ++ (101 ∷ 100 ∷ 103 ∷ 101 ∷ 32 ∷ 48 ∷ 32 ∷ 51 ∷ 32 ∷ 50 ∷ 32 ∷ 49 ∷ 53 ∷ 48 ∷ 48 ∷ 10 ∷ [])
+    ++ (101 ∷ 100 ∷ 103 ∷ 101 ∷ 32 ∷ 49 ∷ 32 ∷ 51 ∷ 32 ∷ 50 ∷ 32 ∷ 49 ∷ 53 ∷ 48 ∷ 48 ∷ 10 ∷ [])
+    ++ (101 ∷ 100 ∷ 103 ∷ 101 ∷ 32 ∷ 50 ∷ 32 ∷ 51 ∷ 32 ∷ 50 ∷ 32 ∷ 49 ∷ 53 ∷ 48 ∷ 48 ∷ 10 ∷ [])
+    ++ (101 ∷ 100 ∷ 103 ∷ 101 ∷ 32 ∷ 51 ∷ 32 ∷ 55 ∷ 32 ∷ 50 ∷ 32 ∷ 51 ∷ 53 ∷ 48 ∷ 48 ∷ 10 ∷ [])
+    ++ (101 ∷ 100 ∷ 103 ∷ 101 ∷ 32 ∷ 52 ∷ 32 ∷ 55 ∷ 32 ∷ 50 ∷ 32 ∷ 51 ∷ 53 ∷ 48 ∷ 48 ∷ 10 ∷ [])
+    ++ (115 ∷ 113 ∷ 117 ∷ 97 ∷ 114 ∷ 101 ∷ 32 ∷ 49 ∷ 48 ∷ 48 ∷ 48 ∷ 48 ∷ 48 ∷ 48 ∷ 32 ∷ 52 ∷ 52 ∷ 10 ∷ [])
+
+pub print-of-tree-a :
+    resolvedText 4 5 (λ v. getD (pos 3 ∷ pos 3 ∷ pos 3 ∷ pos 7 ∷ pos 7 ∷ []) v (pos 0)) (λ v. 2) (λ v. getD (pos 1500 ∷ pos 1500 ∷ pos 1500 ∷ pos 3500 ∷ pos 3500 ∷ []) v (pos 0)) 1000000 44
+    ≡ tree-a
+unfolding digits resolvedLine fractionLine fractionLines roundedLine resolvedText
+print-of-tree-a = refl

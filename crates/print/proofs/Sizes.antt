@@ -1,4 +1,5 @@
--- A decimal has at most 20 bytes and a signed one 21, so a line has at most 70 and the whole print far below 16,384.
+-- A decimal has at most 20 bytes and a signed one 21, so a line has at most 70, or 91 for an edge with a denominator of its own, and
+-- the whole print is far below 16,384.
 use mathlib.Core.List.{[], _∷_, _++_}
 use Prim.Native.Nat.{ℕ, zero, suc, _*_, _≤_}
 use native.Mathlib.Omega.{arith}
@@ -6,7 +7,7 @@ use lib.IntN.{ℤ}
 use lib.ListN.{length, length-append}
 use Rattle.text.specs.Text.{decimal, signed}
 use Rattle.text.proofs.Decimals.{decimal-length, signed-length}
-use Rattle.print.specs.Lines.{space, end, refusedLine, fitLine, edgeLine, edgeLines, lengthLine, squareLine, meanLine, fitText}
+use Rattle.print.specs.Lines.{space, end, refusedLine, fitLine, edgeLine, edgeLines, lengthLine, squareLine, meanLine, fitText, resolvedLine, fractionLine, fractionLines, roundedLine, resolvedText}
 
 -- ---- the pieces of a line
 pub field-length : (n b : ℕ) → length (decimal n ++ (b ∷ [])) ≤ 21
@@ -56,3 +57,26 @@ pub text-length : (N K D : ℕ) (n m : ℕ → ℤ) (t : ℤ) (F R H over : ℕ)
 unfolding fitText
 text-length N K D n m t F R H over small =
     simp length-append (omega (arith, fit-length N K D, edges-length K n m, total-length t, square-length F R H, mean-length F over))
+
+-- ---- a resolved tree
+pub resolved-length : (n k : ℕ) → length (resolvedLine n k) ≤ 70
+unfolding resolvedLine
+resolved-length n k = omega (arith, last-two-length n k)
+
+pub fraction-length : (v : ℕ) (n : ℤ) (d : ℕ) (m : ℤ) → length (fractionLine v n d m) ≤ 91
+unfolding fractionLine
+fraction-length v n d m = simp length-append (omega (arith, decimal-length v, signed-length n, decimal-length d, signed-length m))
+
+pub fractions-length : (k : ℕ) (n : ℕ → ℤ) (d : ℕ → ℕ) (m : ℕ → ℤ) → length (fractionLines k n d m) ≤ 91 * k
+unfolding fractionLines
+fractions-length zero n d m = omega arith
+fractions-length (suc k) n d m = simp length-append (omega (arith, fractions-length k n d m, fraction-length k (n k) (d k) (m k)))
+
+pub rounded-length : (r h : ℕ) → length (roundedLine r h) ≤ 70
+unfolding roundedLine
+rounded-length r h = omega (arith, last-two-length r h)
+
+pub resolved-text-length : (N K : ℕ) (n : ℕ → ℤ) (d : ℕ → ℕ) (m : ℕ → ℤ) (R H : ℕ) → K ≤ 125 → length (resolvedText N K n d m R H) ≤ 16384
+unfolding resolvedText
+resolved-text-length N K n d m R H small =
+    simp length-append (omega (arith, resolved-length N K, fractions-length K n d m, rounded-length R H))

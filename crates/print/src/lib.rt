@@ -1,10 +1,11 @@
-// The print of a report, line by line, into a lent buffer: the bytes of document 01's print and no other.
+// The print of a report, line by line, into a lent buffer: the bytes of document 01's print and no other. And
+// the print of a resolved tree fitted with no proposal.
 ghost use mathlib.Core.List.{[], _∷_, _++_};
 ghost use Prim.Native.Nat.{_+_, _*_, _≤_};
 ghost use lib.IntN.{pos};
 ghost use lib.ListN.{length, getD};
 ghost use Rattle.text.specs.Text.{decimal, signed, Wrote};
-ghost use Rattle.print.specs.Lines.{space, end, refusedLine, fitLine, edgeLine, edgeLines, lengthLine, squareLine, meanLine, fitText};
+ghost use Rattle.print.specs.Lines.{space, end, refusedLine, fitLine, edgeLine, edgeLines, lengthLine, squareLine, meanLine, fitText, resolvedLine, fractionLine, fractionLines, roundedLine, resolvedText};
 
 // A number and the byte behind it: a space, or the end of the line.
 fn field(text: &mut [u8], at: usize, n: u64, behind: u8) -> usize
@@ -142,4 +143,83 @@ pub fn fit_text(
     let next = length_line(text, next, total);
     let next = square_line(text, next, f, r, h);
     mean_line(text, next, f, over)
+}
+
+// resolved N K.
+fn resolved_line(text: &mut [u8], at: usize, n: u64, k: u64) -> usize
+    requires { ⌜ at + 70 ≤ length (now text) ⌝ }
+    ensures { λ r. ⌜ Wrote (now (text .entry)) (now (text .exit)) at (resolvedLine n k) r ⌝ }
+{
+    let next = text::put_word(text, at, b"resolved ");
+    last_two(text, next, n, k)
+}
+
+// edge, the edge, its numerator and its denominator, m.
+fn fraction_line(text: &mut [u8], at: usize, edge: u64, top: i64, bottom: u32, m: i64) -> usize
+    requires { ⌜ at + 91 ≤ length (now text) ⌝ }
+    ensures { λ r. ⌜ Wrote (now (text .entry)) (now (text .exit)) at (fractionLine edge top bottom m) r ⌝ }
+{
+    let next = text::put_word(text, at, b"edge ");
+    let next = field(text, next, edge, b' ');
+    let next = signed_field(text, next, top, b' ');
+    let last = field(text, next, bottom as u64, b' ');
+    signed_field(text, last, m, b'\n')
+}
+
+// A line for each of the first k edges.
+fn fraction_lines(
+    text: &mut [u8],
+    at: usize,
+    k: usize,
+    tops: &[i64; 125],
+    bottoms: &[u32; 125],
+    rounded: &[i64; 125],
+) -> usize
+    requires { ⌜ k ≤ 125 ⌝ }
+    requires room { ⌜ at + 91 * k ≤ length (now text) ⌝ }
+    ensures { λ r. ⌜ Wrote (now (text .entry)) (now (text .exit)) at (fractionLines k (λ v. getD (now (tops .entry)) v (pos 0)) (λ v. getD (now (bottoms .entry)) v 0) (λ v. getD (now (rounded .entry)) v (pos 0))) r ⌝ }
+{
+    let mut next = at;
+    let mut edge = 0;
+    while edge < k {
+        next = fraction_line(
+            text,
+            next,
+            edge as u64,
+            tops[edge],
+            bottoms[edge],
+            rounded[edge],
+        );
+        edge += 1;
+    }
+    next
+}
+
+// square R H.
+fn rounded_line(text: &mut [u8], at: usize, r: u64, h: u64) -> usize
+    requires { ⌜ at + 70 ≤ length (now text) ⌝ }
+    ensures { λ next. ⌜ Wrote (now (text .entry)) (now (text .exit)) at (roundedLine r h) next ⌝ }
+{
+    let next = text::put_word(text, at, b"square ");
+    last_two(text, next, r, h)
+}
+
+// The whole print of a resolved tree, at the front of the buffer.
+pub fn resolved_text(
+    text: &mut [u8],
+    n: u32,
+    k: usize,
+    tops: &[i64; 125],
+    bottoms: &[u32; 125],
+    rounded: &[i64; 125],
+    r: u64,
+    h: u64,
+) -> usize
+    requires { ⌜ k ≤ 125 ⌝ }
+    requires room { ⌜ 16384 ≤ length (now text) ⌝ }
+    ensures { λ next. ⌜ Wrote (now (text .entry)) (now (text .exit)) 0 (resolvedText n k (λ v. getD (now (tops .entry)) v (pos 0)) (λ v. getD (now (bottoms .entry)) v 0) (λ v. getD (now (rounded .entry)) v (pos 0)) r h) next ⌝ }
+{
+    let next = resolved_line(text, 0, n as u64, k as u64);
+    let next = fraction_lines(text, next, k, tops, bottoms, rounded);
+    rounded_line(text, next, r, h)
 }
