@@ -1,21 +1,17 @@
 -- The print of a sheet's report is the print of the sheet.
 -- `few-edges`: what the print asks. `shown-is`: the text of the report is document 01's print of what the sheet holds.
-use mathlib.Core.Path.{_≡_, refl, sym, _∙_, ap, ap₂, subst}
-use mathlib.Core.Bool.{cond}
+use mathlib.Core.Path.{_≡_, refl, _∙_, ap, ap₂, subst}
 use mathlib.Core.List.{List, _++_}
 use Prim.Native.Nat.{ℕ, zero, suc, _≤_, _<_}
 use native.Mathlib.Decide.{ℕ-discrete}
 use native.Mathlib.Omega.{arith}
-use borrow.Author.Tests.{eq-eqb, ne-eqb}
 use lib.IntN.{ℤ, pos, natAbs}
 use lib.ListN.{length, drop, List·getD-append}
 use Rattle.exact.specs.Table.{table}
 use Rattle.exact.proofs.Decide.{by-cases}
 use Rattle.exact.proofs.Fill.{length-table, getD-table}
-use Rattle.verdict.specs.Number.{numberOf, test, _orElse_}
-use Rattle.verdict.specs.declared.Verdict.{Verdict}
-use Rattle.verdict.specs.declared.Verdict.the-variants.{Accepted, Refused}
-use Rattle.verdict.proofs.Answers.{same-answer, orElse-zero}
+use Rattle.verdict.specs.Number.{test, _orElse_}
+use Rattle.verdict.proofs.Answers.{orElse-zero}
 use Rattle.walk.specs.Standing.{entryOf}
 use Rattle.fitting.specs.declared.FitReport.{FitReport}
 use Rattle.fitting.specs.Quantities.{roundedOf, treeLength, fOf, rOf, hOf}
@@ -25,15 +21,14 @@ use Rattle.fitting.proofs.Exactly.{→stands}
 use Rattle.matrix.specs.Tests.{matrixNumber}
 use Rattle.sheet.specs.Form.{formNumber}
 use Rattle.text.specs.Text.{Wrote}
-use Rattle.text.proofs.Writing.{wrote-length}
-use Rattle.print.proofs.Sizes.{text-length, refused-length}
-use Rattle.print.specs.Lines.{refusedLine, edgeLine, edgeLines, fitText, fitLine, lengthLine, squareLine, meanLine}
+use Rattle.print.proofs.Sizes.{text-length}
+use Rattle.print.specs.Lines.{edgeLine, edgeLines, fitText, fitLine, lengthLine, squareLine, meanLine}
 use Rattle.sheet.specs.Holds.{strainsOf, distancesOf, parentsOf, denominatorOf, numeratorsOf}
 use Rattle.sheet.specs.Tests.{sheetNumber, heldNumber, strainsDiffer}
 use Rattle.sheet.specs.Reads.{SheetFit, SheetReport}
-use Rattle.show.specs.Shown.{textOf, shown}
+use Rattle.show.specs.Shown.{shown}
 use Rattle.show.specs.Printed.{fitOfSheet, sheetText, pageSize}
-use Rattle.show.proofs.Texts.{fitOf}
+use Rattle.show.proofs.Texts.{fitOf, text-by-number, fits-page}
 
 -- tables that agree at the edges have the same lines
 edges-cong : (K : ℕ) (n n′ m m′ : ℕ → ℤ) → ((v : ℕ) → v < K → n v ≡ n′ v) → ((v : ℕ) → v < K → m v ≡ m′ v) → edgeLines K n m ≡ edgeLines K n′ m′
@@ -106,32 +101,12 @@ module _ (s : List ℕ) (nb na rb ra : List ℤ) (x : FitReport) (a : SheetRepor
       (λ z. omega (arith, a .silent z .edges))
 
   pub shown-is : shown x na ra ≡ sheetText s
-  shown-is = by-cases (ℕ-discrete (sheetNumber s) 0) accepted refused
-    where
-      accepted : sheetNumber s ≡ 0 → shown x na ra ≡ sheetText s
-      accepted z =
-          ap (λ (v : Verdict). textOf v (fitOf x na ra)) (same-answer (x .verdict) Accepted (a .number ∙ z))
-          ∙ text-is z
-          ∙ sym (ap (λ b. cond b (fitOfSheet s) (refusedLine (sheetNumber s))) (eq-eqb (sheetNumber s) 0 z))
-
-      by-verdict : (v : Verdict) → numberOf v ≡ sheetNumber s → (sheetNumber s ≡ 0 → ⊥) → textOf v (fitOf x na ra) ≡ refusedLine (sheetNumber s)
-      by-verdict Accepted e n = absurd (n (sym e))
-      by-verdict (Refused r) e n = ap refusedLine e
-
-      refused : (sheetNumber s ≡ 0 → ⊥) → shown x na ra ≡ sheetText s
-      refused n = by-verdict (x .verdict) (a .number) n ∙ sym (ap (λ b. cond b (fitOfSheet s) (refusedLine (sheetNumber s))) (ne-eqb (sheetNumber s) 0 n))
+  shown-is = text-by-number (sheetNumber s) (fitOfSheet s) (x .verdict) (fitOf x na ra) (a .number) text-is
 
   -- so what is written is the print of the sheet
   pub shows-sheet : (before after : List ℕ) (next : ℕ) → Wrote before after 0 (shown x na ra) next → Wrote before after 0 (sheetText s) next
   shows-sheet before after next w = subst (λ (t : List ℕ). Wrote before after 0 t next) shown-is w
 
 -- the print of a sheet fits a page
-text-fits : (s : List ℕ) → length (sheetText s) ≤ pageSize
-text-fits s = by-cases (ℕ-discrete (sheetNumber s) 0)
-    (λ z. subst (λ (t : List ℕ). length t ≤ pageSize) (sym (ap (λ b. cond b (fitOfSheet s) (refusedLine (sheetNumber s))) (eq-eqb (sheetNumber s) 0 z)))
-    (text-length _ (length (parentsOf s)) _ _ _ _ _ _ _ _ (stands s z .lengths .few)))
-    (λ n. subst (λ (t : List ℕ). length t ≤ pageSize) (sym (ap (λ b. cond b (fitOfSheet s) (refusedLine (sheetNumber s))) (ne-eqb (sheetNumber s) 0 n)))
-    (omega (arith, refused-length (sheetNumber s))))
-
-pub stays-within : (s before after : List ℕ) (next : ℕ) → pageSize ≤ length before → Wrote before after 0 (sheetText s) next → next ≤ length after
-stays-within s before after next h w = omega (arith, text-fits s, w .place, wrote-length {b = before} {c = after} {at = 0} {m = next} {s = sheetText s} (omega (arith, text-fits s)) w)
+pub text-fits : (s : List ℕ) → length (sheetText s) ≤ pageSize
+text-fits s = fits-page (sheetNumber s) (fitOfSheet s) (λ z. text-length _ (length (parentsOf s)) _ _ _ _ _ _ _ _ (stands s z .lengths .few))

@@ -1,7 +1,8 @@
 -- The report is shown, and its text is the sheet's.
 use mathlib.Core.Path.{refl}
 use native.Mathlib.Omega.{arith}
-use Rattle.show.proofs.Sheets.{few-edges, shows-sheet, stays-within}
+use Rattle.show.proofs.Sheets.{few-edges, shows-sheet, text-fits}
+use Rattle.show.proofs.Texts.{stays-within}
 use borrow.Author.Needs.{needs}
 use Rattle.show.proofs.sheet_text.Statement.{statement}
 use Rattle.show.proofs.sheet_text.Tie as tie
@@ -32,7 +33,7 @@ returns-2 c =
     record {
       written = λ _. print;
       short = λ h. absurd (omega (arith, page));
-      within = stays-within (c .before .before .before .before .before .before .before .before .before .before .before .before .before .before .args .s .now) _ _ _ page print;
+      within = stays-within _ _ _ _ (text-fits (c .before .before .before .before .before .before .before .before .before .before .before .before .before .before .args .s .now)) page print;
     }
 
 pub sheet-text-spec : {M : Type 1} → statement M

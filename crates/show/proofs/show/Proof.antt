@@ -2,7 +2,7 @@
 use mir.Syntax.{w64}
 use mir.Val.{toZ, ofZ}
 use mir.Facts.{toZ-ofZ}
-use Rattle.show.proofs.Texts.{shows-refusal, shows-fit}
+use Rattle.show.proofs.Texts.{fitOf, shows-refusal, shows-fit}
 use borrow.Author.Needs.{needs}
 use Rattle.show.proofs.show.Statement.{statement}
 use Rattle.show.proofs.show.Tie as tie
@@ -28,7 +28,8 @@ same-length c = search needs
 returns : tie.Need-returns
 returns c =
     let told = c .before .before .before .before .before .before .verdict .given in
-    shows-refusal (c .before .before .before .before .before .before .before .before .before .args .report) (c .before .before .before .before .before .before .before .before .before .args .numerators .now) (c .before .before .before .before .before .before .before .before .before .args .rounded .now) _ _ _ (told .0 .0) _ (told .1) (c .before .before .before .number .ensures) (c .before .before .refused-line .ensures)
+    let a = c .before .before .before .before .before .before .before .before .before .args in
+    shows-refusal (a .report .verdict) (fitOf (a .report) (a .numerators .now) (a .rounded .now)) _ _ _ (told .0 .0) _ (told .1) (c .before .before .before .number .ensures) (c .before .before .refused-line .ensures)
 
 same-length-2 : tie.Need-same-length-2
 same-length-2 c = search needs
