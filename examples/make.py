@@ -16,6 +16,7 @@ SHEETS = {
     "negative-length.sheet": reading.sheet(3, [1, 1, 4], [3, 3, 3], 1, [-1, 2, 2]),
     "carnivores.sheet": reading.sheet(*make_figures.table_one()),
     "worked-example.sheet": reading.sheet(*make_figures.worked_example()),
+    "a.unfitted": reading.bare_sheet(n, distances, parents),
     "cut.sheet": reading.sheet(*make_figures.A)[:-1],
 }
 for name, data in SHEETS.items():

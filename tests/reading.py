@@ -121,9 +121,14 @@ def record(kind, body):
     return struct.pack("<IH", len(body), kind) + body
 
 
-def sheet(n, distances, parents, denominator, numerators):
+def bare_sheet(n, distances, parents):
+    """A sheet without lengths."""
     return (record(1, struct.pack("<H", n) + b"".join(struct.pack("<H", d) for d in distances))
-            + record(2, struct.pack("<HH", n, len(parents) + 1) + bytes(parents))
+            + record(2, struct.pack("<HH", n, len(parents) + 1) + bytes(parents)))
+
+
+def sheet(n, distances, parents, denominator, numerators):
+    return (bare_sheet(n, distances, parents)
             + record(3, struct.pack("<IH", denominator, len(numerators)) + b"".join(struct.pack("<q", x) for x in numerators)))
 
 
