@@ -1,8 +1,10 @@
 #!/usr/bin/env python3
 """Writes the input of the program `figures` and what it must print: the bench figures of document 01 that
 are not starred, with both sides of each limit; fits of the exact solver on trees of every kind, and of
-each a damaged twin; the worked example of document 000 and the data of document 001's Table 1.
-What must be printed comes from the plain reading (reading.py) alone.
+each a damaged twin; the worked example of document 000 and the data of document 001's Table 1; and for the
+direct fit every resolved tree of up to six strains, random ones, caterpillars and balanced ones up to 64, with
+the exact solver's lengths, and sheets without lengths that are refused.
+What must be printed comes from the plain reading (reading.py) and the solver (solver.py) alone.
 
     tests/make_figures.py            writes crates/figures/stdin and crates/figures/stdout
     tests/make_figures.py --check    says whether they are what this script writes"""
@@ -267,20 +269,75 @@ def sheets():
     return out
 
 
+# ---- sheets without lengths
+def resolved_shapes(n):
+    """Every resolved tree of n strains: strain n - 1 is hung into each edge of every smaller one."""
+    if n == 3:
+        yield [0, 1, 2]
+        return
+
+    def hung(node, strain):
+        yield [node, strain]
+        if not isinstance(node, int):
+            for k, part in enumerate(node):
+                for new in hung(part, strain):
+                    yield node[:k] + [new] + node[k + 1:]
+
+    for shape in resolved_shapes(n - 1):
+        for k, part in enumerate(shape):
+            for new in hung(part, n - 1):
+                yield shape[:k] + [new] + shape[k + 1:]
+
+
+def unfitted():
+    rng = random.Random(2511)
+    out = [reading.bare_sheet(*A[:3])]
+    anything = lambda n: [rng.randint(0, 50000) for _ in reading.pairs_of(n)]
+    for n in (3, 4, 5, 6):
+        for shape in resolved_shapes(n):
+            out.append(reading.bare_sheet(n, anything(n), table_of(shape, n)))
+    for n in (7, 8, 9, 11, 13, 16, 17, 21, 24, 32, 40, 47, 64):
+        kinds = [caterpillar(n), balanced(n)] + [grown(n, rng, 2) for _ in range(6 if n < 32 else 1)]
+        for shape in kinds:
+            out.append(reading.bare_sheet(n, anything(n), table_of(shape, n)))
+    # all alike, all zero, as far apart as may be
+    for value in (0, 1, 50000):
+        for n in (3, 5, 12):
+            out.append(reading.bare_sheet(n, [value] * (n * (n - 1) // 2), table_of(caterpillar(n) if n > 3 else star(n), n)))
+    # refused: each number, and 25 at the root and below it
+    whole = reading.bare_sheet(*A[:3])
+    out += [b"", whole[:5], whole[:-1], whole + b"\0", b"\0" * 5188, reading.sheet(*A)]
+    out.append(reading.bare_sheet(2, [1], [2, 2]))
+    out.append(reading.bare_sheet(65, [1] * (65 * 32), [65] * 65))
+    out.append(reading.bare_sheet(4, [3, 7, 50001, 6, 9, 5], A[2]))
+    out.append(reading.bare_sheet(4, A[1], [4, 4, 4]))
+    out.append(whole[:26] + b"\5" + whole[27:])
+    out.append(reading.bare_sheet(4, A[1], [4, 4, 5, 5, 4]))
+    out.append(reading.bare_sheet(4, A[1], [5, 5, 5, 4, 5]))
+    for shape, n in ((star(4), 4), ([[0, 1, 2], 3, 4], 5), ([[0, 1], 2, 3, 4], 5), ([[0, 1], [2, 3], 4, 5], 6), (star(64), 64)):
+        out.append(reading.bare_sheet(n, anything(n), table_of(shape, n)))
+    return out
+
+
 def main():
     made = sheets()
-    stdin = b"".join(struct.pack("<I", len(s)) + s for s in made)
-    stdout = "".join(" ".join(reading.print_of(s)) + "\n" for s in made).encode()
+    bare = unfitted()
+    led = lambda kind, s: struct.pack("<I", len(s) | kind << 24) + s
+    stdin = b"".join(led(0, s) for s in made) + b"".join(led(1, s) for s in bare)
+    stdout = "".join(" ".join(lines) + "\n" for lines in [reading.print_of(s) for s in made]
+                     + [reading.resolved_print(s, solver.solve) for s in bare]).encode()
     files = {"stdin": stdin, "stdout": stdout}
     if "--check" in sys.argv:
         same = all(open(os.path.join(CRATE, name), "rb").read() == data for name, data in files.items())
-        print("%d sheets, %d accepted: %s" % (len(made), stdout.count(b"fit "), "as made" if same else "NOT as made"))
+        print("%d sheets, %d accepted; %d without lengths, %d resolved: %s" % (len(made), stdout.count(b"fit "), len(bare),
+              stdout.count(b"resolved "), "as made" if same else "NOT as made"))
         return 0 if same else 1
     os.makedirs(CRATE, exist_ok=True)
     for name, data in files.items():
         with open(os.path.join(CRATE, name), "wb") as file:
             file.write(data)
-    print("%d sheets, %d accepted, numbers %s" % (len(made), stdout.count(b"fit "),
+    print("%d sheets, %d accepted, %d without lengths, %d resolved, numbers %s" % (len(made), stdout.count(b"fit "), len(bare),
+          stdout.count(b"resolved "),
           sorted({int(line.split()[1]) for line in stdout.decode().splitlines() if line.startswith("refused")})))
     return 0
 

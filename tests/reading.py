@@ -132,12 +132,12 @@ def sheet(n, distances, parents, denominator, numerators):
             + record(3, struct.pack("<IH", denominator, len(numerators)) + b"".join(struct.pack("<q", x) for x in numerators)))
 
 
-def read_sheet(data):
-    """The number of refusal, or the fields of the three records."""
+def read_records(data, kinds):
+    """1 to 5: the number of refusal, or the bodies of the records of these kinds."""
     if len(data) > MAX_SHEET:
         return 1, None
     at, bodies = 0, []
-    for kind in (1, 2, 3):
+    for kind in kinds:
         if len(data) - at < 6:
             return 2, None
         size, found = struct.unpack_from("<IH", data, at)
@@ -164,13 +164,26 @@ def read_sheet(data):
         at += 6 + size
     if at != len(data):
         return 5, None
-    first, second, third = bodies
+    return 0, bodies
+
+
+def read_front(first, second):
+    """What the matrix and the tree hold."""
     n, = struct.unpack_from("<H", first)
     distances = list(struct.unpack_from("<%dH" % (len(first) // 2 - 1), first, 2))
     tree_n, _ = struct.unpack_from("<HH", second)
+    return n, distances, tree_n, list(second[4:])
+
+
+def read_sheet(data):
+    """The number of refusal, or the fields of the three records."""
+    number, bodies = read_records(data, (1, 2, 3))
+    if number:
+        return number, None
+    first, second, third = bodies
     denominator, k = struct.unpack_from("<IH", third)
     numerators = list(struct.unpack_from("<%dq" % k, third, 6))
-    return 0, (n, distances, tree_n, list(second[4:]), denominator, numerators)
+    return 0, (*read_front(first, second), denominator, numerators)
 
 
 def sheet_number(data):
@@ -193,3 +206,29 @@ def print_of(data):
         return ["refused %d" % number]
     n, distances, _, parents, denominator, numerators = read_sheet(data)[1]
     return Report(n, distances, parents, denominator, numerators).lines()
+
+
+# ---- sheets without lengths
+def unresolved(n, parents):
+    """Some inner vertex is not of degree three."""
+    edges = len(parents)
+    return any(parents.count(w) + (w < edges) != 3 for w in range(n, edges + 1))
+
+
+def resolved_print(data, solve):
+    """The lines that the program for resolved trees prints; `solve` gives each edge's length as a fraction."""
+    number, bodies = read_records(data, (1, 2))
+    if number == 0:
+        n, distances, tree_n, parents = read_front(*bodies)
+        number = (matrix_number(n, distances) or (8 if tree_n != n else 0) or tree_number(n, parents)
+                  or (25 if unresolved(n, parents) else 0))
+    if number:
+        return ["refused %d" % number]
+    lengths = solve(n, distances, parents)
+    below = clusters(n, parents)
+    rounded = [nearest(b.numerator, b.denominator) for b in lengths]
+    r = sum((1000 * d - path(below, rounded, i, j)) ** 2 for d, (i, j) in zip(distances, pairs_of(n)))
+    h = sum(path(below, [1] * len(parents), i, j) ** 2 for i, j in pairs_of(n))
+    return (["resolved %d %d" % (n, len(parents))]
+            + ["edge %d %d %d %d" % (v, b.numerator, b.denominator, m) for v, (b, m) in enumerate(zip(lengths, rounded))]
+            + ["square %d %d" % (r, h)])

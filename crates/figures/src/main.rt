@@ -1,15 +1,16 @@
-// Reads sheets from standard input, each led by its length in four bytes, little-endian, and prints one line
-// for each: its report with the line ends made spaces, or `refused` and the number.
+// Reads sheets from standard input, each led by its length in three bytes, little-endian, and by a byte that is
+// 0 for a sheet of three records, and any other for one without lengths. Prints one line for each: its report,
+// or the direct fit of its tree, with the line ends made spaces, or `refused` and the number.
 use libc::STDIN_FILENO;
 use libc::STDOUT_FILENO;
 ghost use mathlib.Core.Path.{_≡_};
 ghost use Prim.Native.Nat.{_+_, _≤_, _<_};
 ghost use lib.ListN.{length};
 
-fn room() -> [u8; 262144]
-    ensures { λ r. ⌜ 262144 ≡ length r ⌝ }
+fn room() -> [u8; 524288]
+    ensures { λ r. ⌜ 524288 ≡ length r ⌝ }
 {
-    [0; 262144]
+    [0; 524288]
 }
 
 // A line end becomes a space.
@@ -34,9 +35,19 @@ fn in_one_line(text: &mut [u8], end: usize)
     }
 }
 
-fn print_line(sheet: &[u8]) {
+// The print of a sheet, or of one without lengths.
+fn text_of(kind: u8, sheet: &[u8], text: &mut [u8]) -> usize
+    ensures { λ r. ⌜ (r ≤ length (now (text .exit))) × (length (now (text .exit)) ≡ length (now (text .entry))) ⌝ }
+{
+    if kind == 0 {
+        return show::sheet_text(sheet, text);
+    }
+    unfitted::unfitted_text(sheet, text)
+}
+
+fn print_line(kind: u8, sheet: &[u8]) {
     let mut text = show::page();
-    let written = show::sheet_text(sheet, &mut text);
+    let written = text_of(kind, sheet, &mut text);
     in_one_line(&mut text, written);
     io::write_all(STDOUT_FILENO, &text[..written]);
 }
@@ -53,10 +64,7 @@ fn length_at(s: &[u8], at: usize) -> usize
     requires { ⌜ at + 4 ≤ length (now s) ⌝ }
     ensures { λ r. ⌜ at + 4 + r ≤ length (now (s .entry)) ⌝ }
 {
-    let size = wide(s[at])
-        + wide(s[at + 1]) * 256
-        + wide(s[at + 2]) * 65536
-        + wide(s[at + 3]) * 16777216;
+    let size = wide(s[at]) + wide(s[at + 1]) * 256 + wide(s[at + 2]) * 65536;
     let left = s.len() - at - 4;
     if size < left {
         return size;
@@ -71,7 +79,7 @@ fn print_all(s: &[u8]) {
         let size = length_at(s, at);
         let start = at + 4;
         let end = start + size;
-        print_line(&s[start..end]);
+        print_line(s[at + 3], &s[start..end]);
         at = end;
     }
 }

@@ -26,6 +26,12 @@ add-start c = search needs
 add-end : tie.Need-add-end Inv-loop μ-loop
 add-end c = search needs
 
+add-print-line : tie.Need-add-print-line Inv-loop μ-loop
+add-print-line c = search needs
+
+shared-slice-read-print-line : tie.Need-shared-slice-read-print-line Inv-loop μ-loop
+shared-slice-read-print-line c = search needs
+
 sub-print-line : tie.Need-sub-print-line Inv-loop μ-loop
 sub-print-line c = search needs
 
@@ -58,6 +64,8 @@ print-all-spec =
     length-at-requires
     add-start
     add-end
+    add-print-line
+    shared-slice-read-print-line
     sub-print-line
     part-print-line-start
     part-print-line-end

@@ -8,11 +8,11 @@ use Rattle.figures.proofs.print_line.Tie as tie
 page-requires : tie.Need-page-requires
 page-requires c κs = search needs
 
-slice-aggregate-sheet-text : tie.Need-slice-aggregate-sheet-text
-slice-aggregate-sheet-text c = search needs
+slice-aggregate-text-of : tie.Need-slice-aggregate-text-of
+slice-aggregate-text-of c = search needs
 
-sheet-text-requires : tie.Need-sheet-text-requires
-sheet-text-requires c κs = search needs
+text-of-requires : tie.Need-text-of-requires
+text-of-requires c κs = search needs
 
 slice-aggregate-in-one-line : tie.Need-slice-aggregate-in-one-line
 slice-aggregate-in-one-line c = search needs
@@ -25,7 +25,7 @@ array-share-prefix-text c = search needs
 
 slice-aggregate-write-all : tie.Need-slice-aggregate-write-all
 slice-aggregate-write-all c =
-    let w = c .before .before .before .before .before .sheet-text .ensures .within in
+    let w = c .before .before .before .before .before .text-of .ensures .0 in
     let same = c .before .before .in-one-line .ensures in
     simp length-take (omega arith)
 
@@ -40,8 +40,8 @@ print-line-spec =
     tie.close
     (tie.spec
     page-requires
-    slice-aggregate-sheet-text
-    sheet-text-requires
+    slice-aggregate-text-of
+    text-of-requires
     slice-aggregate-in-one-line
     in-one-line-requires
     array-share-prefix-text
