@@ -5,6 +5,7 @@
 
 #include "resolved.h"
 #include "trees.h"
+#include "vamuthexa.h"
 
 static uint16_t distances[2016];
 static uint8_t parents[128];

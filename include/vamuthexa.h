@@ -23,10 +23,19 @@ enum vamuthexa_number {
     VAMUTHEXA_DENOMINATOR = 12,   /* D not 1 to 1,000,000 */
     VAMUTHEXA_NUMERATOR = 13,     /* a numerator beyond its range */
     VAMUTHEXA_REMAINDERS = 14,    /* some edge's sum of remainders is not zero: not the fit */
-    VAMUTHEXA_BUFFER = 15         /* a lent result buffer not of the exact length; never for a sheet */
+    VAMUTHEXA_BUFFER = 15,        /* a lent result buffer not of the exact length; never for a sheet */
+    VAMUTHEXA_UNRESOLVED = 25     /* some inner vertex not of degree three; never for a sheet with lengths */
 };
 
 /* The number of the sheet in the bytes at `sheet`; `length` may be 0. */
 uint32_t sheet_verdict(const uint8_t *sheet, size_t length);
+
+/* The lengths of a resolved tree of n strains that fit the distances best. Every table comes as a pointer and how
+ * many entries it has: n(n-1)/2 distances, one parent for each of K edges, and three buffers of K entries for the
+ * numerators and denominators in lowest terms and for the lengths in thousandths. The number is 4, 6 to 10, 25 or
+ * 15, or 0 where the buffers are filled; otherwise they are as they were. Link with libdirect.a. */
+uint32_t resolved_lengths(uint32_t n, const uint16_t *distances, size_t distance_count, const uint8_t *parents,
+                          size_t parent_count, int64_t *numerators, size_t numerator_count, uint32_t *denominators,
+                          size_t denominator_count, int64_t *rounded, size_t rounded_count);
 
 #endif
