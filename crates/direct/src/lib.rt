@@ -402,13 +402,12 @@ fn answered(
         numerators,
         denominators,
     );
-    let r = numbers::sum_r(n, edges, &distances, &parents, &clusters, &thousandths);
-    let h = numbers::sum_h(n, edges, &parents, &clusters);
+    let squares = numbers::sum_squares(n, edges, &distances, &parents, &clusters, &thousandths);
     fitting::copy_out(edges, &thousandths, rounded);
     DirectFit {
         verdict: Verdict::Accepted,
-        r,
-        h,
+        r: squares.r,
+        h: squares.h,
     }
 }
 

@@ -304,8 +304,7 @@ fn numbered(matrix: Matrix, tree: Tree, lengths: Lengths, rounded: &mut [i64]) -
     let d = lengths.denominator;
     let thousandths = numbers::rounded(edges, d, &numerators);
     let f = numbers::sum_f(n, edges, d, &distances, &parents, &clusters, &numerators);
-    let r = numbers::sum_r(n, edges, &distances, &parents, &clusters, &thousandths);
-    let h = numbers::sum_h(n, edges, &parents, &clusters);
+    let squares = numbers::sum_squares(n, edges, &distances, &parents, &clusters, &thousandths);
     let length = numbers::total(edges, &numerators);
     copy_out(edges, &thousandths, rounded);
     let strains = n as u32;
@@ -316,8 +315,8 @@ fn numbered(matrix: Matrix, tree: Tree, lengths: Lengths, rounded: &mut [i64]) -
         denominator: d,
         length,
         f,
-        r,
-        h,
+        r: squares.r,
+        h: squares.h,
         mean: d as u64 * matrix::pair_count(strains),
     }
 }

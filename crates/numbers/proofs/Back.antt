@@ -1,18 +1,23 @@
 -- What the code reads back from its bits: a remainder, and a total that fits 63 bits. The idea: each is small enough to come back
 -- as it went in.
-use mathlib.Core.Path.{_≡_, refl, ap, _∙_}
+use mathlib.Core.Path.{_≡_, refl, sym, ap, _∙_, subst}
 use mathlib.Core.List.{List}
 use Prim.Native.Nat.{ℕ, _≤_, _<_}
 use lib.Dec.{T}
-use lib.IntN.{ℤ, pos, negsuc, natAbs}
+use lib.IntN.{ℤ, pos, negsuc, natAbs, _-ℤ_, _*ℤ_}
+use lib.ListN.{getD}
 use lib.Signed.{nonNeg}
 use mir.Syntax.{w64}
-use mir.Val.{toZ, ofZ}
+use mir.Val.{SFits, toZ, ofZ}
 use mir.Facts.{toZ-ofZ}
+use Rattle.exact.specs.LeastSquares.{path}
 use Rattle.exact.specs.Order.{_≤ᶻ_}
 use Rattle.exact.proofs.Order.{≤-pos}
+use Rattle.matrix.specs.Place.{place}
+use Rattle.tree.specs.Chain.{parentOf, partsPair}
+use Rattle.walk.specs.Standing.{entryOf}
 use Rattle.sums.specs.Ready.{Ready, left}
-use Rattle.sums.proofs.Remaining.{left-fits}
+use Rattle.sums.proofs.Remaining.{scaled, scaled-fits, left-fits, worked}
 
 -- a number that is not negative is its magnitude
 pub whole : (z : ℤ) → pos 0 ≤ᶻ z → z ≡ pos (natAbs z)
@@ -31,3 +36,21 @@ between (negsuc n) b h k = absurd (h .le)
 pub left-back : {N K D : ℕ} {ds ps cs : List ℕ} {ns : List ℤ} → Ready N K D ds ps cs ns → (i j : ℕ) → i < j → j < N
     → (off : ℤ) → off ≡ left N K D ds ps ns (i, j) → toZ w64 (ofZ w64 off) ≡ left N K D ds ps ns (i, j)
 left-back w i j rising strain off e = ap (λ z. toZ w64 (ofZ w64 z)) e ∙ toZ-ofZ (left-fits w i j rising strain)
+
+-- the same over thousandths, from the distance that the code reads at k and the path p that it is handed
+abbrev pub offBy : List ℕ → ℕ → ℤ → ℤ
+offBy ds k p = toZ w64 (ofZ w64 (pos 1000 *ℤ toZ w64 (getD ds k 0))) -ℤ toZ w64 (ofZ w64 p)
+
+module _ {N K : ℕ} {ds ps cs : List ℕ} {ns : List ℤ} (w : Ready N K 1000 ds ps cs ns) (i j : ℕ) (rising : i < j) (strain : j < N) (k : ℕ) (e : k ≡ place N i j) where
+  pub thousandfold-fits : SFits w64 (pos 1000 *ℤ toZ w64 (getD ds k 0))
+  thousandfold-fits = subst (λ z. SFits w64 z) (sym (ap (λ a. pos 1000 *ℤ toZ w64 (getD ds a 0)) e ∙ scaled w i j rising strain)) (scaled-fits w i j rising strain)
+
+  module _ (p : ℤ) (f : p ≡ path K (partsPair (parentOf ps)) (entryOf ns) (i, j)) where
+    off-is : offBy ds k p ≡ left N K 1000 ds ps ns (i, j)
+    off-is = worked w i j rising strain k p e f
+
+    pub off-fits : SFits w64 (offBy ds k p)
+    off-fits = subst (λ z. SFits w64 z) (sym off-is) (left-fits w i j rising strain)
+
+    pub off-back : toZ w64 (ofZ w64 (offBy ds k p)) ≡ left N K 1000 ds ps ns (i, j)
+    off-back = toZ-ofZ off-fits ∙ off-is

@@ -13,7 +13,7 @@ ghost use Rattle.exact.specs.LeastSquares.{sumF, sumR, sumH};
 ghost use Rattle.matrix.specs.Place.{distance};
 ghost use Rattle.tree.specs.Chain.{parentOf, partsPair};
 ghost use Rattle.lengths.specs.Limits.{maxDenominator, maxEdges};
-ghost use Rattle.walk.specs.Standing.{Standing, entryOf};
+ghost use Rattle.walk.specs.Standing.{entryOf};
 ghost use Rattle.sums.specs.Ready.{Ready, InRange};
 ghost use Rattle.numbers.specs.Fits.{Fits63};
 
@@ -83,51 +83,40 @@ pub fn sum_f(
     acc
 }
 
-// R: the sum over pairs of the square of 1000·d less the path taken over the rounded lengths.
-pub fn sum_r(
+// The two sums of squares over the pairs. R: of 1000·d less the path over the rounded lengths. H: of the
+// number of edges that part the pair.
+pub struct SquareSums {
+    pub r: u64,
+    pub h: u64,
+}
+
+// R and H in one loop, since the climbs of a pair pass the edges of both.
+pub fn sum_squares(
     n: usize,
     edges: usize,
     distances: &[u16; Matrix::MAX_PAIRS],
     parents: &[u8; Tree::MAX_EDGES],
     clusters: &[u64; Tree::MAX_VERTICES],
     lengths: &[i64; Tree::MAX_EDGES],
-) -> u64
+) -> SquareSums
     requires { ⌜ Ready n edges 1000 (now distances) (now parents) (now clusters) (now lengths) ⌝ }
     requires { ⌜ Fits63 (sumR (pairs n) edges (partsPair (parentOf (now parents))) (distance n (now distances)) (entryOf (now lengths))) ⌝ }
-    ensures { λ r. ⌜ pos r ≡ sumR (pairs n) edges (partsPair (parentOf (now (parents .entry)))) (distance n (now (distances .entry))) (entryOf (now (lengths .entry))) ⌝ }
+    ensures { λ s. ⌜ pos (s .r) ≡ sumR (pairs n) edges (partsPair (parentOf (now (parents .entry)))) (distance n (now (distances .entry))) (entryOf (now (lengths .entry))) ⌝ }
+    ensures { λ s. ⌜ pos (s .h) ≡ sumH (pairs n) edges (partsPair (parentOf (now (parents .entry)))) ⌝ }
 {
-    let mut sum: i64 = 0;
+    let mut r: i64 = 0;
+    let mut h: u64 = 0;
     let mut i = 0;
     let mut j = 1;
     while j < n {
-        let off = sums::remainder(n, edges, 1000, distances, parents, clusters, lengths, i, j);
-        sum += off * off;
+        let far = distances[matrix::place(n, i, j)] as i64;
+        let walked = walk::walked(n, edges, parents, clusters, lengths, i, j);
+        let off = 1000 * far - walked.sum;
+        r += off * off;
+        h += walked.edges * walked.edges;
         let next = sums::next_pair(i, j);
         i = next.i;
         j = next.j;
     }
-    sum as u64
-}
-
-// H: the sum over pairs of the square of the number of edges that part the pair.
-pub fn sum_h(
-    n: usize,
-    edges: usize,
-    parents: &[u8; Tree::MAX_EDGES],
-    clusters: &[u64; Tree::MAX_VERTICES],
-) -> u64
-    requires { ⌜ Standing n edges (now parents) (now clusters) ⌝ }
-    ensures { λ r. ⌜ pos r ≡ sumH (pairs n) edges (partsPair (parentOf (now (parents .entry)))) ⌝ }
-{
-    let mut sum: u64 = 0;
-    let mut i = 0;
-    let mut j = 1;
-    while j < n {
-        let h = walk::hops(n, edges, parents, clusters, i, j);
-        sum += h * h;
-        let next = sums::next_pair(i, j);
-        i = next.i;
-        j = next.j;
-    }
-    sum
+    SquareSums { r: r as u64, h }
 }

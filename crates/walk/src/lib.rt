@@ -52,41 +52,62 @@ pub fn path(
     one_way(n, edges, parents, clusters, x, i, j) + one_way(n, edges, parents, clusters, x, j, i)
 }
 
-// The number of edges on the way from strain i to strain j.
-fn edges_one_way(
+// A table's sum over some edges, and how many edges they are.
+pub struct Tally {
+    pub sum: i64,
+    pub edges: u64,
+}
+
+// The sum of x over the way from strain i to strain j, and the number of its edges.
+fn walked_one_way(
     n: usize,
     edges: usize,
     parents: &[u8; Tree::MAX_EDGES],
     clusters: &[u64; Tree::MAX_VERTICES],
+    x: &[i64; Tree::MAX_EDGES],
     i: usize,
     j: usize,
-) -> u64
+) -> Tally
     requires { ⌜ Standing n edges (now parents) (now clusters) ⌝ }
+    requires { ⌜ Small edges (now x) ⌝ }
     requires { ⌜ (i < n) × (j < n) ⌝ }
-    ensures { λ r. ⌜ (pos r ≡ way (parentOf (now (parents .entry))) edges (λ _. pos 1) i j) × (r ≤ edges) ⌝ }
+    ensures { λ r. ⌜ r .sum ≡ way (parentOf (now (parents .entry))) edges (entryOf (now (x .entry))) i j ⌝ }
+    ensures { λ r. ⌜ (pos (r .edges) ≡ way (parentOf (now (parents .entry))) edges (λ _. pos 1) i j) × (r .edges ≤ edges) ⌝ }
 {
+    let mut total: i64 = 0;
     let mut count: u64 = 0;
     let mut at = i;
     while (clusters[at] >> j) % 2 != 1 {
+        total += x[at];
         count += 1;
         at = parents[at] as usize;
     }
-    count
+    Tally {
+        sum: total,
+        edges: count,
+    }
 }
 
-// h: the number of edges that part strains i and j.
-pub fn hops(
+// The path and h, the number of its edges, by one climb from each strain.
+pub fn walked(
     n: usize,
     edges: usize,
     parents: &[u8; Tree::MAX_EDGES],
     clusters: &[u64; Tree::MAX_VERTICES],
+    x: &[i64; Tree::MAX_EDGES],
     i: usize,
     j: usize,
-) -> u64
+) -> Tally
     requires { ⌜ Standing n edges (now parents) (now clusters) ⌝ }
+    requires { ⌜ Small edges (now x) ⌝ }
     requires { ⌜ (i < n) × (j < n) ⌝ }
-    ensures { λ r. ⌜ (pos r ≡ hops edges (partsPair (parentOf (now (parents .entry)))) (i, j)) × (r ≤ 125) ⌝ }
+    ensures { λ r. ⌜ r .sum ≡ path edges (partsPair (parentOf (now (parents .entry)))) (entryOf (now (x .entry))) (i, j) ⌝ }
+    ensures { λ r. ⌜ (pos (r .edges) ≡ hops edges (partsPair (parentOf (now (parents .entry)))) (i, j)) × (r .edges ≤ 125) ⌝ }
 {
-    edges_one_way(n, edges, parents, clusters, i, j)
-        + edges_one_way(n, edges, parents, clusters, j, i)
+    let out = walked_one_way(n, edges, parents, clusters, x, i, j);
+    let back = walked_one_way(n, edges, parents, clusters, x, j, i);
+    Tally {
+        sum: out.sum + back.sum,
+        edges: out.edges + back.edges,
+    }
 }

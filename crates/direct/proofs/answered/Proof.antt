@@ -38,17 +38,14 @@ fill-requires c κs = let p = c .before .before .before .before .before .before 
       (splits m t (p .pre .0) (s .result) (s .ensures), (p .pre .1 .0, p .pre .1 .1)),
     )
 
-sum-r-requires : tie.Need-sum-r-requires
-sum-r-requires c κs = let a = c .before .before .before .before .before .before .before in let s = a .before .before .before .before .before .before .before .before .before .before .before .before .before .split in (
+sum-squares-requires : tie.Need-sum-squares-requires
+sum-squares-requires c κs = let a = c .before .before .before .before .before .before .before in let s = a .before .before .before .before .before .before .before .before .before .before .before .before .before .split in (
   ready-rounded (m a) (t a) (ready a) (s .result) (s .ensures) _ _ (a .fill .result) (a .fill .ensures),
   r-within (m a) (t a) (ready a) (s .result) (s .ensures) _ _ (a .fill .result) (a .fill .ensures),
 )
 
-sum-h-requires : tie.Need-sum-h-requires
-sum-h-requires c κs = ready (c .before .before .before .before .before .before .before .before .before .before) .standing
-
 copy-out-requires : tie.Need-copy-out-requires
-copy-out-requires c κs = let a = c .before .before .before .before .before .before .before .before .before .before .before .before .before in (edges-few (m a) (t a) (ready a), a .before .before .before .before .before .before .before .before .before .before .before .before .before .before .before .pre .1 .2)
+copy-out-requires c κs = let a = c .before .before .before .before .before .before .before .before .before .before in (edges-few (m a) (t a) (ready a), a .before .before .before .before .before .before .before .before .before .before .before .before .before .before .before .pre .1 .2)
 
 same-length : tie.Need-same-length
 same-length c = search needs
@@ -60,13 +57,13 @@ same-length-3 : tie.Need-same-length-3
 same-length-3 c = search needs
 
 returns : tie.Need-returns
-returns c = let a = c .before .before .before .before .before .before .before .before .before .before .before .before .before .before .before in let s = a .before .before .before .before .before .before .before .before .before .before .before .before .before .split in record {
+returns c = let a = c .before .before .before .before .before .before .before .before .before .before .before .before in let s = a .before .before .before .before .before .before .before .before .before .before .before .before .before .split in record {
   verdict = refl;
   tops = tops-are (m a) (t a) (ready a) (s .result) (s .ensures) _ _ (a .fill .result) (a .fill .ensures);
   bottoms = bottoms-are (m a) (t a) (ready a) (s .result) (s .ensures) _ _ (a .fill .result) (a .fill .ensures);
   rounded = rounded-is (m a) (t a) (ready a) (s .result) (s .ensures) _ _ (a .fill .result) (a .fill .ensures) _ (c .before .copy-out .ensures);
-  r = c .before .before .before .before .before .before .before .sum-r .ensures ∙ r-same (m a) (t a) (ready a) (s .result) (s .ensures) _ _ (a .fill .result) (a .fill .ensures);
-  h = c .before .before .before .before .sum-h .ensures;
+  r = c .before .before .before .before .sum-squares .ensures .0 ∙ r-same (m a) (t a) (ready a) (s .result) (s .ensures) _ _ (a .fill .result) (a .fill .ensures);
+  h = c .before .before .before .before .sum-squares .ensures .1;
 }
 
 pub answered-spec : {M : Type 1} → statement M
@@ -76,8 +73,7 @@ answered-spec =
     split-requires
     child-table-requires
     fill-requires
-    sum-r-requires
-    sum-h-requires
+    sum-squares-requires
     copy-out-requires
     same-length
     same-length-2

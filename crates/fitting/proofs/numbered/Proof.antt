@@ -1,4 +1,4 @@
--- Each number is worked by its own function; that the lengths fit keeps F and R within 64 bits.
+-- Each number is worked by a function of its own, R and H by one; that the lengths fit keeps F and R within 64 bits.
 use mathlib.Core.Path.{_≡_, refl, ap, _∙_}
 use Prim.Native.Nat.{ℕ, _*_}
 use native.Mathlib.Omega.{arith}
@@ -42,32 +42,29 @@ rounded-requires c κs = search needs
 sum-f-requires : tie.Need-sum-f-requires
 sum-f-requires c κs = let at = c .before .before .before .before in (rc at .ready, (rc at .range, f-fits (m at) (t at) (l at) (rc at) (fit at)))
 
-sum-r-requires : tie.Need-sum-r-requires
-sum-r-requires c κs =
+sum-squares-requires : tie.Need-sum-squares-requires
+sum-squares-requires c κs =
     let at = c .before .before .before .before .before .before .before .before .before in
     (ready-rounded (m at) (t at) (l at) (rc at) _ (at .rounded .ensures), r-fits (m at) (t at) (l at) (rc at) _ (at .rounded .ensures) (fit at))
 
-sum-h-requires : tie.Need-sum-h-requires
-sum-h-requires c κs = search needs
-
 total-requires : tie.Need-total-requires
-total-requires c κs = let at = c .before .before .before .before .before .before .before .before .before .before .before .before .before .before in (edges-few (m at) (t at) (l at) (rc at), rc at .range)
+total-requires c κs = let at = c .before .before .before .before .before .before .before .before .before .before .before in (edges-few (m at) (t at) (l at) (rc at), rc at .range)
 
 copy-out-requires : tie.Need-copy-out-requires
-copy-out-requires c κs = let at = c .before .before .before .before .before .before .before .before .before .before .before .before .before .before .before .before .before in (edges-few (m at) (t at) (l at) (rc at), size at)
+copy-out-requires c κs = let at = c .before .before .before .before .before .before .before .before .before .before .before .before .before .before in (edges-few (m at) (t at) (l at) (rc at), size at)
 
 cast-strains : tie.Need-cast-strains
-cast-strains c = let at = c .before .before .before .before .before .before .before .before .before .before .before .before .before .before .before .before .before .before .before in omega (arith, rc at .ready .standing .allowed .few)
+cast-strains c = let at = c .before .before .before .before .before .before .before .before .before .before .before .before .before .before .before .before in omega (arith, rc at .ready .standing .allowed .few)
 
-cast-t36 : tie.Need-cast-t36
-cast-t36 c = let at = c .before .before .before .before .before .before .before .before .before .before .before .before .before .before .before .before .before .before .before in omega (arith, rc at .ready .most)
+cast-t33 : tie.Need-cast-t33
+cast-t33 c = let at = c .before .before .before .before .before .before .before .before .before .before .before .before .before .before .before .before in omega (arith, rc at .ready .most)
 
 pair-count-requires : tie.Need-pair-count-requires
 pair-count-requires c κs = search needs
 
-mul-t38 : tie.Need-mul-t38
-mul-t38 c =
-    let at = c .before .before .before .before .before .before .before .before .before .before .before .before .before .before .before .before .before .before .before .before in
+mul-t35 : tie.Need-mul-t35
+mul-t35 c =
+    let at = c .before .before .before .before .before .before .before .before .before .before .before .before .before .before .before .before .before in
     record { fits = omega (arith, mean-fits (m at) (t at) (l at) (rc at), ap (λ (k : ℕ). l at .denominator * k) (c .pair-count .ensures)) }
 
 same-length : tie.Need-same-length
@@ -75,16 +72,16 @@ same-length c = search needs
 
 returns : tie.Need-returns
 returns c =
-    let at = c .before .before .before .before .before .before .before .before .before .before .before .before .before .before .before .before .before .before .before .before in
+    let at = c .before .before .before .before .before .before .before .before .before .before .before .before .before .before .before .before .before in
     record {
       verdict = refl;
       strains = refl;
       edges = refl;
       denominator = refl;
       total = ap (λ (z : ℤ). toZ w64 (ofZ w64 z)) (c .before .before .before .before .before .total .ensures) ∙ toZ-ofZ (total-fits (m at) (t at) (l at) (rc at));
-      f = c .before .before .before .before .before .before .before .before .before .before .before .before .before .before .before .sum-f .ensures;
-      r = c .before .before .before .before .before .before .before .before .before .before .sum-r .ensures ∙ r-same (m at) (t at) (l at) (rc at) _ (at .rounded .ensures);
-      h = c .before .before .before .before .before .before .before .sum-h .ensures;
+      f = c .before .before .before .before .before .before .before .before .before .before .before .before .sum-f .ensures;
+      r = c .before .before .before .before .before .before .before .sum-squares .ensures .0 ∙ r-same (m at) (t at) (l at) (rc at) _ (at .rounded .ensures);
+      h = c .before .before .before .before .before .before .before .sum-squares .ensures .1;
       mean = ap (λ (k : ℕ). l at .denominator * k) (c .pair-count .ensures);
       rounded = rounded-is (m at) (t at) (l at) (rc at) _ (at .rounded .ensures) _ (c .before .before .copy-out .ensures);
     }
@@ -95,13 +92,12 @@ numbered-spec =
     (tie.spec
     rounded-requires
     sum-f-requires
-    sum-r-requires
-    sum-h-requires
+    sum-squares-requires
     total-requires
     copy-out-requires
     cast-strains
-    cast-t36
+    cast-t33
     pair-count-requires
-    mul-t38
+    mul-t35
     same-length
     returns)
