@@ -1,6 +1,6 @@
-/* The verdict on a sheet, for programs in C. The function is proved: for every byte string it returns 0
- * where the sheet is accepted and otherwise the number of refusal, and it reads no byte outside the
- * string. Link with libsheet.a. */
+/* The verdict on a sheet and the direct fit of a resolved tree, for programs in C. Both functions are proved: for
+ * whatever they are lent they return 0 where it is accepted and otherwise the number of refusal, and they read and
+ * write nothing outside it. Link with libsheet.a, or with libdirect.a for the fit. */
 #ifndef VAMUTHEXA_H
 #define VAMUTHEXA_H
 
