@@ -4,29 +4,24 @@
 #include <stdio.h>
 
 #include "plain.h"
+#include "timing.h"
 #include "trees.h"
 #include "vamuthexa.h"
 
 static volatile uint32_t kept;
+static uint8_t sheet[8192];
+static size_t length;
 
-/* The least of five runs, each of at least 20 ms. */
-static double time_of(uint32_t (*verdict)(const uint8_t *, size_t), const uint8_t *sheet, size_t length) {
-    double best = 1e18;
-    for (int run = 0; run < 5; run++) {
-        long calls = 0;
-        double start = now(), end;
-        do {
-            for (int k = 0; k < 16; k++) {
-                kept = verdict(sheet, length);
-            }
-            calls += 16;
-            end = now();
-        } while (end - start < 2e7);
-        if ((end - start) / (double)calls < best) {
-            best = (end - start) / (double)calls;
-        }
-    }
-    return best;
+static void ours(void) {
+    kept = sheet_verdict(sheet, length);
+}
+
+static void pass(void) {
+    kept = plain_pass(sheet, length);
+}
+
+static void triple(void) {
+    kept = plain_triple(sheet, length);
 }
 
 static size_t put(uint8_t *at, uint64_t x, int bytes) {
@@ -80,20 +75,17 @@ static size_t write_sheet(uint32_t n, int shape, uint8_t *out) {
 }
 
 int main(void) {
-    static uint8_t sheet[8192];
     printf("| N | tree | ours, ns | one pass, ns | triple loop, ns | ours / one pass | ours / triple loop |\n");
     printf("|---|---|---|---|---|---|---|\n");
     for (uint32_t n = 8; n <= 64; n *= 2) {
         for (int shape = 0; shape < 3; shape++) {
-            size_t length = write_sheet(n, shape, sheet);
+            length = write_sheet(n, shape, sheet);
             if (sheet_verdict(sheet, length) != 0 || plain_pass(sheet, length) != 0 || plain_triple(sheet, length) != 0) {
                 printf("a sheet that is not accepted: N = %u, %s\n", n, shapes[shape]);
                 return 1;
             }
-            double ours = time_of(sheet_verdict, sheet, length);
-            double pass = time_of(plain_pass, sheet, length);
-            double triple = time_of(plain_triple, sheet, length);
-            printf("| %u | %s | %.0f | %.0f | %.0f | %.2f | %.4f |\n", n, shapes[shape], ours, pass, triple, ours / pass, ours / triple);
+            double a = time_of(ours), b = time_of(pass), c = time_of(triple);
+            printf("| %u | %s | %.0f | %.0f | %.0f | %.2f | %.4f |\n", n, shapes[shape], a, b, c, a / b, a / c);
         }
     }
     return 0;

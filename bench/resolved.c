@@ -4,6 +4,7 @@
 #include <stdio.h>
 
 #include "resolved.h"
+#include "timing.h"
 #include "trees.h"
 #include "vamuthexa.h"
 
@@ -21,26 +22,6 @@ static void ours(void) {
 
 static void plain(void) {
     plain_resolved(n, distances, parents, tops[1], bottoms[1], rounded[1], square);
-}
-
-/* The least of five runs, each of at least 20 ms. */
-static double time_of(void (*fit)(void)) {
-    double best = 1e18;
-    for (int run = 0; run < 5; run++) {
-        long calls = 0;
-        double start = now(), end;
-        do {
-            for (int k = 0; k < 16; k++) {
-                fit();
-            }
-            calls += 16;
-            end = now();
-        } while (end - start < 2e7);
-        if ((end - start) / (double)calls < best) {
-            best = (end - start) / (double)calls;
-        }
-    }
-    return best;
 }
 
 int main(void) {

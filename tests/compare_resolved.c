@@ -1,9 +1,10 @@
-/* Compares the proved direct fit with the plain reading on random resolved trees of every size, and tries what it
+/* Compares the proved direct fit with the plain reading on resolved trees of every size, and tries what it
  * must refuse: each with its number, and every buffer as it was. Last line: 'N passed, M failed'. */
 #include <stdio.h>
 #include <string.h>
 
 #include "resolved.h"
+#include "trees.h"
 #include "vamuthexa.h"
 
 enum { EDGES = 125 };
@@ -13,32 +14,7 @@ struct buffers {
     uint32_t bottoms[EDGES + 1];
 };
 
-static uint64_t state = 2463534242u;
 static long passed, failed;
-
-static uint32_t chance(uint32_t below) {
-    state ^= state << 13;
-    state ^= state >> 7;
-    state ^= state << 17;
-    return (uint32_t)(state % below);
-}
-
-/* Any resolved tree: two nodes that are left are joined until three hang under the root. */
-static void grow(uint8_t parents[], uint32_t n) {
-    uint32_t nodes[64] = {0}, left = n, next = n;
-    for (uint32_t i = 0; i < n; i++) {
-        nodes[i] = i;
-    }
-    for (; left > 3; left--) {
-        uint32_t a = chance(left - 1), b = chance(3) == 0 ? left - 1 : a + 1;
-        parents[nodes[a]] = parents[nodes[b]] = (uint8_t)next;
-        nodes[a] = next++;
-        nodes[b] = nodes[left - 1];
-    }
-    for (uint32_t i = 0; i < 3; i++) {
-        parents[nodes[i]] = (uint8_t)next;
-    }
-}
 
 static void count(int fine, const char *what, uint32_t n) {
     if (fine) {
@@ -64,7 +40,7 @@ int main(void) {
         uint32_t n = 3 + (uint32_t)turn % 62, k = 2 * n - 3, pairs = n * (n - 1) / 2, most = turn % 3 == 0 ? 50001 : 1 + chance(50001);
         struct buffers ours, plain;
         uint64_t square[2];
-        grow(parents, n);
+        grow(parents, n, turn / 62 % 3);
         for (uint32_t p = 0; p < pairs; p++) {
             d[p] = (uint16_t)chance(most);
         }

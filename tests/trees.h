@@ -1,18 +1,9 @@
-/* What the timings share: the clock, and resolved trees of three shapes. */
+/* Resolved trees of three shapes, for comparisons and timings. */
 #ifndef TREES_H
 #define TREES_H
 
 #include <stdint.h>
 #include <string.h>
-#include <time.h>
-
-static const char *const shapes[] = {"balanced", "caterpillar", "random"};
-
-static double now(void) {
-    struct timespec t;
-    clock_gettime(CLOCK_MONOTONIC, &t);
-    return (double)t.tv_sec * 1e9 + (double)t.tv_nsec;
-}
 
 static uint64_t state = 88172645463325252u;
 
