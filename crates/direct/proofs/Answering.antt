@@ -14,7 +14,7 @@ use Rattle.exact.specs.Sum.{pairs, ind}
 use Rattle.exact.specs.Table.{table}
 use Rattle.exact.specs.Nearest.{nearest}
 use Rattle.exact.specs.LeastSquares.{sq, sumR}
-use Rattle.exact.proofs.Fill.{length-table, getD-table, table-is}
+use Rattle.exact.proofs.Fill.{getD-table, table-cong}
 use Rattle.exact.proofs.Order.{nn-pos, pos-≤, ≤-trans, le-by}
 use Rattle.exact.proofs.Quote.{by-ring, quote}
 use Rattle.exact.proofs.Sum.{pairs-sums, S-cong}
@@ -27,7 +27,7 @@ use Rattle.tree.specs.declared.Tree.{Tree}
 use Rattle.walk.specs.Standing.{entryOf}
 use Rattle.sums.specs.Ready.{Ready}
 use Rattle.numbers.specs.Fits.{Fits63}
-use Rattle.fitting.proofs.Reporting.{path-cong, table-cong}
+use Rattle.fitting.proofs.Reporting.{path-cong}
 use Rattle.direct.specs.Fraction.{Fraction, lowestTop, lowestBottom}
 use Rattle.direct.specs.Children.{Resolved}
 use Rattle.direct.specs.Formula.{edgeLength}

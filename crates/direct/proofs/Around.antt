@@ -12,14 +12,13 @@ use Rattle.exact.proofs.Sign.{fits-abs}
 use Rattle.verdict.specs.Table.{count}
 use Rattle.verdict.proofs.Table.{count-le}
 use Rattle.tree.specs.Allowed.{Allowed}
-use Rattle.tree.proofs.Counts.{sum-count}
 use Rattle.direct.specs.Fraction.{_over_, Lowest}
 use Rattle.direct.specs.Children.{childOf, sibling, farther, Resolved}
 use Rattle.direct.specs.Averages.{cluster, neither, size}
 use Rattle.direct.specs.Splits.{outerTop, outerBottom, innerTop, innerBottom}
 use Rattle.direct.specs.Tables.{Sized, outerBy, innerBy}
 use Rattle.direct.proofs.Children.{child₀, child₁, sibling-is, farther-is}
-use Rattle.direct.proofs.Sizes.{cluster-least, neither-least}
+use Rattle.direct.proofs.Sizes.{size-count, cluster-least, neither-least}
 use Rattle.direct.proofs.Steps.{sized-abs}
 
 pub sized-fits : (a : ℤ) → Sized a → SFits w64 a
@@ -28,15 +27,11 @@ sized-fits a s = fits-abs a (omega (arith, sized-abs a s))
 pub sum-fits : (z : ℤ) → natAbs z ≤ 51200000 → SFits w64 z
 sum-fits z h = fits-abs z (omega (arith, h))
 
-size-is : (N : ℕ) (A : ℕ → Bool) → size N A ≡ pos (count N A)
-unfolding size
-size-is N A = sum-count N A
-
 sized : (N : ℕ) (A : ℕ → Bool) → N ≤ 64 → pos 1 ≤ᶻ size N A → Sized (size N A)
 sized N A h some = record {
   count = count N A;
-  is = size-is N A;
-  some = ≤-pos (subst (λ z. pos 1 ≤ᶻ z) (size-is N A) some);
+  is = size-count N A;
+  some = ≤-pos (subst (λ z. pos 1 ≤ᶻ z) (size-count N A) some);
   few = omega (arith, count-le N A);
 }
 

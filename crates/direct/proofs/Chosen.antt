@@ -40,10 +40,10 @@ use Rattle.direct.specs.Fraction.{lowestTop, lowestBottom}
 use Rattle.direct.specs.Children.{Resolved}
 use Rattle.direct.specs.Formula.{edgeLength}
 use Rattle.direct.specs.Tests.{unresolved, buffersOut, resolvedNumber, directNumber}
-use Rattle.direct.specs.Answers.{ReadyTree, Answered, lengthOf, topOf, bottomOf, thousandthOf, Common, Fits, Direct, Resolves, DirectAnswer}
+use Rattle.direct.specs.Answers.{ReadyTree, Answered, lengthOf, topOf, bottomOf, thousandthOf, Fits, Direct, Resolves, DirectAnswer}
 use Rattle.direct.proofs.Degrees as degrees
 use Rattle.direct.proofs.Answering.{in-range}
-use Rattle.direct.proofs.Fitted.{Over, in-lowest, den-most, meets-all, is-minimum, is-rounding}
+use Rattle.direct.proofs.Fitted.{in-lowest, den-most, meets-all, is-minimum, is-rounding}
 
 -- ---- the tests
 one-size : (K a b c : ℕ) → (a ≡ K → ⊥) → buffersOut K a b c ≡ true
@@ -66,17 +66,14 @@ module _ (N : ℕ) (ds ps : List ℕ) (proper : Proper N ds) (ok : Allowed N (le
   range : (p : ℕ × ℕ) → (pos 0 ≤ᶻ distance N ds p) × (distance N ds p ≤ᶻ pos 50000)
   range = in-range N ds near
 
-  over : (D : ℤ) (n : ℕ → ℤ) → Common N ds ps D n → Over (length ps) (topOf N ds ps) (bottomOf N ds ps) D n
-  over D n c = record { positive = c .positive; same = c .same }
-
   pub direct : Direct N ds ps
   direct = record {
     lowest = in-lowest N (length ps) (parentOf ps) ok res (distance N ds) range;
     most = den-most N (length ps) (parentOf ps) ok res (distance N ds) range;
     fits = λ D n c. record {
-      equations = meets-all N (length ps) (parentOf ps) ok res (distance N ds) range D n (over D n c);
-      minimum = is-minimum N (length ps) (parentOf ps) ok res (distance N ds) range D n (over D n c);
-      rounding = is-rounding N (length ps) (parentOf ps) ok res (distance N ds) range D n (over D n c);
+      equations = meets-all N (length ps) (parentOf ps) ok res (distance N ds) range D n c;
+      minimum = is-minimum N (length ps) (parentOf ps) ok res (distance N ds) range D n c;
+      rounding = is-rounding N (length ps) (parentOf ps) ok res (distance N ds) range D n c;
     };
   }
 

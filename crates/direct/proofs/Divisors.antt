@@ -11,8 +11,8 @@ use lib.IntN.{ℤ, pos, negsuc, negℤ, _*ℤ_, natAbs}
 use Rattle.exact.specs.Order.{_≤ᶻ_, _<ᶻ_}
 use Rattle.exact.proofs.Decide.{by-cases, eq-yes, eq-no}
 use Rattle.exact.proofs.Quote.{by-ring, quote, eq-by, z-sub, z+, z*}
-use Rattle.exact.proofs.Order.{≤-antisym, ≤-of-≡, ≤-pos, <-is, *-cancel}
-use Rattle.exact.proofs.Sign.{natAbs-mul, natAbs-neg}
+use Rattle.exact.proofs.Order.{mul-cancel, ≤-pos, <-is}
+use Rattle.exact.proofs.Sign.{natAbs-mul, natAbs-neg, positive-is}
 use Rattle.direct.specs.Fraction.{Fraction, _over_, Greatest, divisorIn, divisor, divided, shared, lowestTop, lowestBottom, Lowest}
 
 -- the same numbers go into x and y as into a and b
@@ -59,12 +59,9 @@ euclid a b c one p = let (g, h, d) = reach b a b c a b (omega arith) (shared-sta
     subst (λ z. b ∣ z) (ap (λ z. z * c) (one g (h .left) (h .right)) ∙ one-mul c) d
 
 -- ---- lowest terms
-cancel : (k x y : ℤ) → pos 0 <ᶻ k → k *ℤ x ≡ k *ℤ y → x ≡ y
-cancel k x y p e = ≤-antisym (*-cancel p (≤-of-≡ e)) (*-cancel p (≤-of-≡ (sym e)))
-
 -- two forms of one fraction: p·q′ = p′·q
 crossed : (f : Fraction) (p p′ : ℤ) (q q′ : ℕ) → pos 0 <ᶻ f .bottom → p *ℤ f .bottom ≡ pos q *ℤ f .top → p′ *ℤ f .bottom ≡ pos q′ *ℤ f .top → p *ℤ pos q′ ≡ p′ *ℤ pos q
-crossed f p p′ q q′ h e e′ = cancel (f .bottom) (p *ℤ pos q′) (p′ *ℤ pos q) h
+crossed f p p′ q q′ h e e′ = mul-cancel {x = p *ℤ pos q′} {y = p′ *ℤ pos q} h
     (eq-by (z+ (z* (pos q′) (z-sub e)) (z* (negℤ (pos q)) (z-sub e′))) (by-ring (p ∷ p′ ∷ pos q ∷ pos q′ ∷ f .top ∷ f .bottom ∷ []) (search quote depth 20) tt))
 
 goes : (f : Fraction) (p p′ : ℤ) (q q′ : ℕ) → pos 0 <ᶻ f .bottom → Lowest f p q → Lowest f p′ q′ → q ∣ q′
@@ -73,7 +70,7 @@ goes f p p′ q q′ h l l′ = euclid (natAbs p) q q′ (l .lowest)
 
 -- lowest terms are unique
 pub lowest-only : (f : Fraction) (p p′ : ℤ) (q q′ : ℕ) → pos 0 <ᶻ f .bottom → Lowest f p q → Lowest f p′ q′ → (p ≡ p′) × (q ≡ q′)
-lowest-only f p p′ q q′ h l l′ = (cancel (f .bottom) p p′ h (by-ring (f .bottom ∷ p ∷ []) (search quote depth 20) tt ∙ l .value ∙ ap (λ z. pos z *ℤ f .top) same ∙ sym (l′ .value) ∙ by-ring (f .bottom ∷ p′ ∷ []) (search quote depth 20) tt), same)
+lowest-only f p p′ q q′ h l l′ = (mul-cancel {x = p} {y = p′} h (by-ring (f .bottom ∷ p ∷ []) (search quote depth 20) tt ∙ l .value ∙ ap (λ z. pos z *ℤ f .top) same ∙ sym (l′ .value) ∙ by-ring (f .bottom ∷ p′ ∷ []) (search quote depth 20) tt), same)
   where
     same : q ≡ q′
     same = dvd-antisymm (goes f p p′ q q′ h l l′) (goes f p′ p q′ q h l′ l)
@@ -81,7 +78,7 @@ lowest-only f p p′ q q′ h l l′ = (cancel (f .bottom) p p′ h (by-ring (f 
 -- a fraction of the same value has the same lowest terms
 pub lowest-of : (f g : Fraction) (p : ℤ) (q : ℕ) → pos 0 <ᶻ f .bottom → f .top *ℤ g .bottom ≡ f .bottom *ℤ g .top → Lowest f p q → Lowest g p q
 lowest-of f g p q h e l = record {
-  value = cancel (f .bottom) (p *ℤ g .bottom) (pos q *ℤ g .top) h
+  value = mul-cancel {x = p *ℤ g .bottom} {y = pos q *ℤ g .top} h
       (eq-by (z+ (z* (g .bottom) (z-sub (l .value))) (z* (pos q) (z-sub e))) (by-ring (p ∷ pos q ∷ f .top ∷ f .bottom ∷ g .top ∷ g .bottom ∷ []) (search quote depth 20) tt));
   positive = l .positive;
   lowest = l .lowest;
@@ -143,9 +140,5 @@ pub lowest-is : (f : Fraction) → pos 0 <ᶻ f .bottom → Lowest f (lowestTop 
 lowest-is f h = subst (λ z. Lowest (f .top over z) (lowestTop f) (lowestBottom f)) (sym same)
     (reduced (f .top) (natAbs (f .bottom)) (shared f) (divisor-greatest (natAbs (f .top)) (natAbs (f .bottom))) (≤-pos (subst (λ z. pos 1 ≤ᶻ z) same (<-is h))))
   where
-    whole : (z : ℤ) → pos 0 <ᶻ z → z ≡ pos (natAbs z)
-    whole (pos n) h = refl
-    whole (negsuc n) h = absurd (h .lt)
-
     same : f .bottom ≡ pos (natAbs (f .bottom))
-    same = whole (f .bottom) h
+    same = positive-is (f .bottom) h

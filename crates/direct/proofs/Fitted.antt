@@ -29,16 +29,12 @@ use Rattle.direct.specs.Children.{Resolved}
 use Rattle.direct.specs.Formula.{edgeLength}
 use Rattle.direct.specs.Splits.{splitAt}
 use Rattle.direct.specs.Tables.{lengthBy}
+use Rattle.direct.specs.Answers.{Over}
 use Rattle.direct.proofs.Quartet.{pos*}
 use Rattle.direct.proofs.Divisors.{lowest-is, lowest-of}
 use Rattle.direct.proofs.BySplits.{edge-positive}
 use Rattle.direct.proofs.Reduced.{Unreduced, unreduced, bottom-most, top-near, rounded-near}
 use Rattle.direct.proofs.Equations.{equations}
-
--- n over D are the first K fractions num over den
-pub record Over (K : ℕ) (num : ℕ → ℤ) (den : ℕ → ℕ) (D : ℤ) (n : ℕ → ℤ) : Type 0 where
-  pub positive : pos 0 <ᶻ D
-  pub same : (v : ℕ) → v < K → n v *ℤ pos (den v) ≡ D *ℤ num v
 
 -- the product of the denominators serves
 pub common : (K : ℕ) (num : ℕ → ℤ) (den : ℕ → ℕ) → ((v : ℕ) → v < K → 1 ≤ den v) → (D : ℤ) × (n : ℕ → ℤ) × Over K num den D n

@@ -1,69 +1,55 @@
--- Filling the buffers with lowest terms: below v they hold the fractions' own, and the table of rounded lengths is zero from v on.
-use mathlib.Core.Path.{_≡_, sym, _∙_, ap, ap₂}
+-- Filling the buffers with lowest terms: below v they hold the fractions' own, from v on what was lent; the table of rounded
+-- lengths is zero from v on.
+use mathlib.Core.Path.{_≡_, refl, _∙_, ap, ap₂}
 use mathlib.Core.Bool.{cond}
 use mathlib.Core.List.{List}
-use mathlib.Core.Logic.{_≢_}
 use Prim.Native.Nat.{ℕ, _+_, _*_, _≤_, _<_}
-use native.Mathlib.Decide.{ℕ-discrete}
 use native.Mathlib.Omega.{arith}
 use borrow.Author.Tests.{lt-ltb, le-ltb}
 use lib.Dec.{ltb}
 use lib.IntN.{ℤ, pos, natAbs}
 use lib.ListN.{length, getD, set, length-set}
-use lib.Seq.{getD-set-same, getD-set-other}
 use Rattle.exact.specs.Table.{table}
 use Rattle.exact.specs.Nearest.{nearest}
-use Rattle.exact.proofs.Decide.{by-cases}
 use Rattle.exact.proofs.Fill.{Filled, fill-none, fill-more, filled-whole, length-table, getD-table-const, table-is}
 use Rattle.walk.specs.Standing.{entryOf}
 use Rattle.direct.specs.Fraction.{Fraction, lowestTop, lowestBottom}
 use Rattle.direct.specs.Tables.{Lowered}
 
--- the first v entries of a table are those of f
-pub record Front {A : Type 0} (d : A) (f : ℕ → A) (v : ℕ) (l : List A) : Type 0 where
-  pub below : (k : ℕ) → k < v → getD l k d ≡ f k
-
-front-more : {A : Type 0} (d : A) (f : ℕ → A) (v : ℕ) (l : List A) (x : A) → v < length l → x ≡ f v → Front d f v l → Front d f (v + 1) (set l v x)
-front-more d f v l x h e w = record {
-  below = λ k m. by-cases (ℕ-discrete k v)
-      (λ q. ap (λ i. getD (set l v x) i d) q ∙ getD-set-same l v x d h ∙ e ∙ ap f (sym q))
-      (λ q. getD-set-other l v k x d q ∙ w .below k (omega arith));
-}
-
-pub record Lowering (K : ℕ) (f : ℕ → Fraction) (v : ℕ) (ns : List ℤ) (es : List ℕ) (ms : List ℤ) : Type 0 where
+pub record Lowering (K : ℕ) (f : ℕ → Fraction) (nb : List ℤ) (eb : List ℕ) (v : ℕ) (ns : List ℤ) (es : List ℕ) (ms : List ℤ) : Type 0 where
   pub few : v ≤ K
   pub tops-size : length ns ≡ K
   pub bottoms-size : length es ≡ K
   pub rounded-size : length ms ≡ 125
-  pub tops : Front (pos 0) (λ k. lowestTop (f k)) v ns
-  pub bottoms : Front 0 (λ k. lowestBottom (f k)) v es
+  pub tops : Filled (pos 0) (λ k. lowestTop (f k)) (entryOf nb) v ns
+  pub bottoms : Filled 0 (λ k. lowestBottom (f k)) (λ k. getD eb k 0) v es
   pub rounded : Filled (pos 0) (λ k. cond (ltb k K) (nearest (lowestBottom (f k)) (lowestTop (f k))) (pos 0)) (λ _. pos 0) v ms
 
-module _ (K : ℕ) (f : ℕ → Fraction) where
-  pub lowering-start : (ns : List ℤ) (es : List ℕ) (ms : List ℤ) → length ns ≡ K → length es ≡ K → ms ≡ table 125 (λ _. pos 0) → Lowering K f 0 ns es ms
-  lowering-start ns es ms p q e = record {
+module _ (K : ℕ) (f : ℕ → Fraction) (nb : List ℤ) (eb : List ℕ) where
+  pub lowering-start : (ms : List ℤ) → length nb ≡ K → length eb ≡ K → ms ≡ table 125 (λ _. pos 0) → Lowering K f nb eb 0 nb eb ms
+  lowering-start ms p q e = record {
     few = omega arith;
     tops-size = p;
     bottoms-size = q;
     rounded-size = ap length e ∙ length-table 125 (λ _. pos 0);
-    tops = record { below = λ k l. absurd (omega arith) };
-    bottoms = record { below = λ k l. absurd (omega arith) };
+    tops = fill-none (pos 0) _ _ nb (λ k. refl);
+    bottoms = fill-none 0 _ _ eb (λ k. refl);
     rounded = fill-none (pos 0) _ _ ms (λ k. ap (λ (l : List ℤ). getD l k (pos 0)) e ∙ getD-table-const 125 (pos 0) k);
   }
 
   pub lowering-turn : (v : ℕ) (ns : List ℤ) (es : List ℕ) (ms : List ℤ) (n : ℤ) (e : ℕ) (m : ℤ) → v < K → K ≤ 125
-      → n ≡ lowestTop (f v) → e ≡ lowestBottom (f v) → m ≡ nearest e n → Lowering K f v ns es ms → Lowering K f (v + 1) (set ns v n) (set es v e) (set ms v m)
+      → n ≡ lowestTop (f v) → e ≡ lowestBottom (f v) → m ≡ nearest e n → Lowering K f nb eb v ns es ms → Lowering K f nb eb (v + 1) (set ns v n) (set es v e) (set ms v m)
   lowering-turn v ns es ms n e m l k hn he hm w = record {
     few = omega arith;
     tops-size = simp length-set (w .tops-size);
     bottoms-size = simp length-set (w .bottoms-size);
     rounded-size = simp length-set (w .rounded-size);
-    tops = front-more (pos 0) _ v ns n (omega (arith, w .tops-size)) hn (w .tops);
-    bottoms = front-more 0 _ v es e (omega (arith, w .bottoms-size)) he (w .bottoms);
+    tops = fill-more (pos 0) _ _ v ns n (omega (arith, w .tops-size)) hn (w .tops);
+    bottoms = fill-more 0 _ _ v es e (omega (arith, w .bottoms-size)) he (w .bottoms);
     rounded = fill-more (pos 0) _ _ v ms m (omega (arith, w .rounded-size)) (hm ∙ ap₂ nearest he hn ∙ simp (lt-ltb v K l)) (w .rounded);
   }
 
-  pub lowering-end : (v : ℕ) (ns : List ℤ) (es : List ℕ) (ms : List ℤ) → K ≤ v → Lowering K f v ns es ms → Lowered K f ns es ms
+  pub lowering-end : (v : ℕ) (ns : List ℤ) (es : List ℕ) (ms : List ℤ) → K ≤ v → Lowering K f nb eb v ns es ms → Lowered K f ns es ms
   lowering-end v ns es ms l w = record {
     tops = table-is (pos 0) (λ k. lowestTop (f k)) K ns (w .tops-size) (λ k h. w .tops .below k (omega arith));
     bottoms = table-is 0 (λ k. lowestBottom (f k)) K es (w .bottoms-size) (λ k h. w .bottoms .below k (omega arith));

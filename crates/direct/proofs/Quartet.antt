@@ -3,18 +3,13 @@
 -- of a strain (`starOf`). The one idea: an edge's length by K11 (`edgeOf`) is what makes that law at one end of the edge give the
 -- same law at the other (`grow`), and the law in all three directions at a vertex gives an edge's equation (`meets`).
 -- Both laws are free of denominators: `IsStar` and `IsEdge` multiply them out.
-use mathlib.Core.Path.{_≡_, sym, _∙_, ap, ap₂}
+use mathlib.Core.Path.{_≡_, _∙_, ap, ap₂}
 use mathlib.Core.List.{[], _∷_}
 use lib.IntN.{ℤ, pos, _+ℤ_, _-ℤ_, _*ℤ_}
 use Rattle.exact.proofs.Quote.{by-ring, quote, eq-by, z-sub, z+, z*}
 use Rattle.exact.specs.Order.{_<ᶻ_}
-use Rattle.exact.proofs.Order.{≤-antisym, ≤-of-≡, *-cancel, nn+, nn*, nn-pos, nn-sub, is-<, <-is, le-by}
+use Rattle.exact.proofs.Order.{mul-cancel, nn+, nn*, nn-pos, nn-sub, is-<, <-is, le-by}
 
--- a positive factor cancels
-pub mul-cancel : {k x y : ℤ} → pos 0 <ᶻ k → k *ℤ x ≡ k *ℤ y → x ≡ y
-mul-cancel p e = ≤-antisym (*-cancel p (≤-of-≡ e)) (*-cancel p (≤-of-≡ (sym e)))
-
--- products and sums of positive numbers are positive
 pub pos* : {a b : ℤ} → pos 0 <ᶻ a → pos 0 <ᶻ b → pos 0 <ᶻ a *ℤ b
 pos* {a} {b} p q = is-< (le-by (nn+ (nn* (nn-sub (<-is p)) (nn-sub (<-is q))) (nn+ (nn-sub (<-is p)) (nn-sub (<-is q)))) (by-ring (a ∷ b ∷ []) (search quote depth 20) tt))
 

@@ -14,9 +14,9 @@ use Rattle.exact.specs.Order.{_≤ᶻ_, _<ᶻ_, Within}
 use Rattle.exact.specs.Nearest.{nearest}
 use Rattle.exact.proofs.Decide.{by-cases}
 use Rattle.exact.proofs.Quote.{by-ring, quote, eq-by, z-sub, z*}
-use Rattle.exact.proofs.Order.{≤-antisym, ≤-of-≡, ≤-pos, ≤-trans, pos-≤, <-is, is-<, *-cancel, le-by, nn-sub, nn+, nn-pos}
+use Rattle.exact.proofs.Order.{mul-cancel, ≤-pos, <-is}
 use Rattle.exact.proofs.Linear.{d-atom, lin, lt→, →lt}
-use Rattle.exact.proofs.Sign.{natAbs-mul, natAbs-sub, natAbs-add, within→abs}
+use Rattle.exact.proofs.Sign.{natAbs-mul, natAbs-sub, natAbs-add, within→abs, positive-is}
 use Rattle.exact.proofs.Rounding.{nearest-near}
 use Rattle.tree.specs.Allowed.{Allowed}
 use Rattle.direct.specs.Fraction.{Fraction, _over_, lowestTop, lowestBottom, Lowest}
@@ -42,18 +42,10 @@ pub record Unreduced (f g : Fraction) : Type 0 where
   pub within : Within (pos 50000 *ℤ f .bottom) (f .top)
   pub same : g .top *ℤ f .bottom ≡ g .bottom *ℤ f .top
 
--- a positive whole number is a natural one
-whole : (z : ℤ) → pos 0 <ᶻ z → z ≡ pos (natAbs z)
-whole (pos n) h = refl
-whole (negsuc n) h = absurd (h .lt)
-
-cancel : (k x y : ℤ) → pos 0 <ᶻ k → k *ℤ x ≡ k *ℤ y → x ≡ y
-cancel k x y p e = ≤-antisym (*-cancel p (≤-of-≡ e)) (*-cancel p (≤-of-≡ (sym e)))
-
 module _ (f g : Fraction) (u : Unreduced f g) (num : ℤ) (den : ℕ) (low : Lowest f num den) where
   -- num · rest = den · half
   halves : num *ℤ u .rest ≡ pos den *ℤ u .half
-  halves = cancel (pos 2) (num *ℤ u .rest) (pos den *ℤ u .half) (record { lt = tt })
+  halves = mul-cancel {k = pos 2} {x = num *ℤ u .rest} {y = pos den *ℤ u .half} (record { lt = tt })
       (by-ring (num ∷ u .rest ∷ []) (search quote depth 20) tt ∙ ap (λ z. num *ℤ z) (sym (u .bottom-even)) ∙ low .value ∙ ap (λ z. pos den *ℤ z) (u .top-even) ∙ by-ring (pos den ∷ u .half ∷ []) (search quote depth 20) tt)
 
   some-rest : pos 0 <ᶻ u .rest
@@ -67,11 +59,11 @@ module _ (f g : Fraction) (u : Unreduced f g) (num : ℤ) (den : ℕ) (low : Low
       (subst (λ z. den ∣ z) (sym (natAbs-mul (pos den) (u .half)) ∙ ap natAbs (sym halves) ∙ natAbs-mul num (u .rest)) (dvd-mul-right den (natAbs (u .half))))
 
   rest-most : natAbs (u .rest) ≤ 134217728
-  rest-most = omega (arith, ≤-pos {m = 2 * natAbs (u .rest)} {n = 268435456} (subst (λ z. z ≤ᶻ pos 268435456) (u .bottom-even ∙ ap (λ z. pos 2 *ℤ z) (whole (u .rest) some-rest)) (u .most)))
+  rest-most = omega (arith, ≤-pos {m = 2 * natAbs (u .rest)} {n = 268435456} (subst (λ z. z ≤ᶻ pos 268435456) (u .bottom-even ∙ ap (λ z. pos 2 *ℤ z) (positive-is (u .rest) some-rest)) (u .most)))
 
   -- the lowest denominator is at most 134,217,728
   pub bottom-most : den ≤ 134217728
-  bottom-most = omega (arith, rest-most, le-of-dvd (≤-pos {m = 1} (subst (λ z. pos 1 ≤ᶻ z) (whole (u .rest) some-rest) (<-is some-rest))) goes)
+  bottom-most = omega (arith, rest-most, le-of-dvd (≤-pos {m = 1} (subst (λ z. pos 1 ≤ᶻ z) (positive-is (u .rest) some-rest) (<-is some-rest))) goes)
 
   -- and the value at most 50,000 from zero
   pub top-near : natAbs num ≤ 50000 * den
@@ -81,13 +73,13 @@ module _ (f g : Fraction) (u : Unreduced f g) (num : ℤ) (den : ℕ) (low : Low
       B = natAbs (f .bottom)
 
       some-B : 1 ≤ B
-      some-B = ≤-pos {m = 1} (subst (λ z. pos 1 ≤ᶻ z) (whole (f .bottom) (u .some)) (<-is (u .some)))
+      some-B = ≤-pos {m = 1} (subst (λ z. pos 1 ≤ᶻ z) (positive-is (f .bottom) (u .some)) (<-is (u .some)))
 
       crossed : natAbs num * B ≡ den * natAbs (f .top)
       crossed = sym (natAbs-mul num (f .bottom)) ∙ ap natAbs (low .value) ∙ natAbs-mul (pos den) (f .top)
 
       top≤ : natAbs (f .top) ≤ 50000 * B
-      top≤ = within→abs (50000 * B) (f .top) (subst (λ z. Within (pos 50000 *ℤ z) (f .top)) (whole (f .bottom) (u .some)) (u .within))
+      top≤ = within→abs (50000 * B) (f .top) (subst (λ z. Within (pos 50000 *ℤ z) (f .top)) (positive-is (f .bottom) (u .some)) (u .within))
 
       bound : den * natAbs (f .top) ≤ B * (50000 * den)
       bound = subst (λ z. den * natAbs (f .top) ≤ z) (sym (mul-assoc den 50000 B) ∙ mul-comm (den * 50000) B ∙ ap (λ z. B * z) (mul-comm den 50000)) (mul-le-mul (omega arith) top≤)

@@ -1,6 +1,6 @@
 -- How many strains the sets about an edge have, and the distances between them, as sums of weights 0 and 1. Laws:
 -- `size-sum`, `between-link`, `between-clusters`, `between-neither`: sizes and sums between sets, from their weights;
--- `size-count`: a cluster's size is a count; `size-neither`: what is below neither of two siblings is the rest;
+-- `size-count`: a size is a count; `size-neither`: what is below neither of two siblings is the rest;
 -- `cluster-some`, `neither-some`, `cluster-least`, `neither-least`: no set about an edge is empty; `own-one`: a strain's cluster has one strain;
 -- `outer-all`, `inner-all`: the sets about an edge are all the strains.
 use mathlib.Core.Path.{_≡_, refl, sym, _∙_, ap₂, subst}
@@ -50,8 +50,9 @@ module _ (N : ℕ) where
   pub size-cluster : (par : ℕ → ℕ) (v : ℕ) → size N (cluster par v) ≡ sum N (bit par v)
   size-cluster par v = size-sum (cluster par v) (bit par v) (λ i l. refl)
 
-  pub size-count : (par : ℕ → ℕ) (v : ℕ) → size N (cluster par v) ≡ pos (count N (λ i. below par i v))
-  size-count par v = size-cluster par v ∙ sum-count N (λ i. below par i v)
+  pub size-count : (A : ℕ → Bool) → size N A ≡ pos (count N A)
+  unfolding size
+  size-count A = sum-count N A
 
   -- what is left beside two sets
   rest-sum : (par : ℕ → ℕ) (c s : ℕ) → sum N (rest par c s) ≡ pos N -ℤ sum N (bit par c) -ℤ sum N (bit par s)

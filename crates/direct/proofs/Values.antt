@@ -11,10 +11,11 @@ use Prim.Native.Nat.{ℕ}
 use lib.IntN.{ℤ, pos, negℤ, _+ℤ_, _-ℤ_, _*ℤ_}
 use Rattle.exact.proofs.Quote.{by-ring, quote, eq-by, z-sub, z+, z*}
 use Rattle.exact.specs.Order.{_<ᶻ_}
+use Rattle.exact.proofs.Order.{mul-cancel}
 use Rattle.direct.specs.Fraction.{Fraction, _over_, _⊕_, _⊖_, _⊗_, half}
 use Rattle.direct.specs.Averages.{size, between}
 use Rattle.direct.specs.Formula.{outerLength, weight, innerLength}
-use Rattle.direct.proofs.Quartet.{starOf, edgeOf, mul-cancel, pos*, pos+}
+use Rattle.direct.proofs.Quartet.{starOf, edgeOf, pos*, pos+}
 
 -- f has the value p over q
 abbrev pub Value : Fraction → ℤ → ℤ → Type 0

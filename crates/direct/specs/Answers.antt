@@ -66,10 +66,10 @@ thousandthOf N ds ps v = nearest (bottomOf N ds ps v) (topOf N ds ps v)
 abbrev pub squareOf : ℕ → List ℕ → List ℕ → ℤ
 squareOf N ds ps = sumR (pairs N) (length ps) (partsOf ps) (distance N ds) (thousandthOf N ds ps)
 
--- the lengths over one denominator D
-pub record Common (N : ℕ) (ds ps : List ℕ) (D : ℤ) (n : ℕ → ℤ) : Type 0 where
+-- n over D are the fractions num over den of K edges, over one denominator
+pub record Over (K : ℕ) (num : ℕ → ℤ) (den : ℕ → ℕ) (D : ℤ) (n : ℕ → ℤ) : Type 0 where
   pub positive : pos 0 <ᶻ D
-  pub same : (v : ℕ) → v < length ps → n v *ℤ pos (bottomOf N ds ps v) ≡ D *ℤ topOf N ds ps v
+  pub same : (v : ℕ) → v < K → n v *ℤ pos (den v) ≡ D *ℤ num v
 
 -- demands 2 and 3 of lengths over one denominator: every edge's sum of remainders is zero, the fit is a minimum, and the rounding
 -- to thousandths is close to it
@@ -83,7 +83,7 @@ pub record Fits (N : ℕ) (ds ps : List ℕ) (D : ℤ) (n : ℕ → ℤ) : Type 
 pub record Direct (N : ℕ) (ds ps : List ℕ) : Type 0 where
   pub lowest : (v : ℕ) → v < length ps → Lowest (lengthOf N ds ps v) (topOf N ds ps v) (bottomOf N ds ps v)
   pub most : (v : ℕ) → v < length ps → bottomOf N ds ps v ≤ 134217728
-  pub fits : (D : ℤ) (n : ℕ → ℤ) → Common N ds ps D n → Fits N ds ps D n
+  pub fits : (D : ℤ) (n : ℕ → ℤ) → Over (length ps) (topOf N ds ps) (bottomOf N ds ps) D n → Fits N ds ps D n
 
 -- a resolved tree: its lengths in the three buffers, their R and H
 pub record Resolves (N : ℕ) (ds ps : List ℕ) (ns : List ℤ) (es : List ℕ) (ms : List ℤ) (x : DirectFit) : Type 0 where

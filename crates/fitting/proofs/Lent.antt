@@ -11,7 +11,7 @@ use Rattle.exact.specs.Sum.{pairs, ind}
 use Rattle.exact.specs.Table.{table}
 use Rattle.exact.specs.LeastSquares.{path}
 use Rattle.exact.proofs.Decide.{eq-yes}
-use Rattle.exact.proofs.Fill.{table-is, length-table, getD-table}
+use Rattle.exact.proofs.Fill.{table-cong}
 use Rattle.verdict.specs.Number.{numberOf, refusalOf, test, _orElse_}
 use Rattle.verdict.specs.declared.Reason.{Reason}
 use Rattle.verdict.specs.declared.Reason.the-variants.{Buffer}
@@ -58,10 +58,6 @@ wrong-size a b h = rw (ne-eqb a b h)
 
 right-size : (a b : ℕ) → a ≡ b → 0 ≡ test 15 (bufferOut a b)
 right-size a b e = rw (eq-yes e)
-
--- tables of the same entries
-table-cong : (n : ℕ) (f g : ℕ → ℤ) → ((k : ℕ) → k < n → f k ≡ g k) → table n f ≡ table n g
-table-cong n f g h = table-is (pos 0) g n (table n f) (length-table n f) (λ k l. getD-table n f (pos 0) k l ∙ h k l)
 
 -- ---- split sums
 module _ (N : ℕ) (ds ps : List ℕ) (before : List ℤ) (a : Measured) (b : Planted) (v : Verdict) (m : MatrixAnswer N ds a) (t : TreeAnswer N ps b)
@@ -113,7 +109,7 @@ module _ (N : ℕ) (ds ps : List ℕ) (before : List ℤ) (a : Measured) (b : Pl
         let number : 0 ≡ splitNumber N ds ps (length before) = right-size (length before) (length ps) s ∙ split-number in
         record {
           number = number;
-          filled = λ _. e ∙ table-cong (length ps) (entryOf worked) (splitSum N ds ps) (λ u l.
+          filled = λ _. e ∙ table-cong (pos 0) (length ps) (entryOf worked) (splitSum N ds ps) (λ u l.
               w u (omega (arith, split-grown .size))
               ∙ tree-moved N ds ps (a .matrix) (b .tree) split-held split-grown split-proper split-few (λ N′ K par d. pairs N′ (λ p. ind (partsPair par u p) *ℤ d p)));
           kept = λ h. absurd (h (sym number));

@@ -16,7 +16,7 @@ use Rattle.exact.specs.Sum.{sum, pairs, ind}
 use Rattle.exact.specs.Table.{table}
 use Rattle.exact.specs.LeastSquares.{sq, path, sumF, sumR}
 use Rattle.exact.specs.Nearest.{nearest}
-use Rattle.exact.proofs.Fill.{length-table, getD-table, table-is}
+use Rattle.exact.proofs.Fill.{getD-table, table-cong}
 use Rattle.exact.proofs.Order.{≤-trans}
 use Rattle.exact.proofs.Sign.{fits-abs}
 use Rattle.exact.proofs.Sweep.{sum-abs}
@@ -39,10 +39,6 @@ use Rattle.fitting.proofs.Demand3 as demand3
 pub path-cong : {I : Type 0} (K : ℕ) (parts : ℕ → I → Bool) (x y : ℕ → ℤ) → ((v : ℕ) → v < K → x v ≡ y v) → (p : I) → path K parts x p ≡ path K parts y p
 unfolding path
 path-cong K parts x y h p = sum-cong K (λ v l. ap (λ (z : ℤ). ind (parts v p) *ℤ z) (h v l))
-
--- and are one table
-pub table-cong : {A : Type 0} (d : A) (n : ℕ) (f g : ℕ → A) → ((k : ℕ) → k < n → f k ≡ g k) → table n f ≡ table n g
-table-cong d n f g h = table-is d g n (table n f) (length-table n f) (λ k l. getD-table n f d k l ∙ h k l)
 
 module _ (m : Matrix) (t : Tree) (l : Lengths) (rc : ReadyCase m t l) where
   abbrev n : ℕ

@@ -24,7 +24,7 @@ use Rattle.direct.proofs.fill.Tie as tie
 
 abbrev Inv-loop : tie.InvT-loop
 Inv-loop n edges parents clusters children sums numerators₀ denominators₀ rounded₀ v₀ numerators denominators rounded v =
-    Lowering edges (lengthBy n edges (parentOf parents) (entryOf sums)) v numerators denominators rounded
+    Lowering edges (lengthBy n edges (parentOf parents) (entryOf sums)) numerators₀ denominators₀ v numerators denominators rounded
 
 abbrev μ-loop : tie.MeasureT-loop
 μ-loop n edges parents clusters children sums numerators₀ denominators₀ rounded₀ v₀ numerators denominators rounded v = edges - v
@@ -136,7 +136,7 @@ loop-again : tie.Need-loop-again Inv-loop μ-loop
 loop-again c = let e = c .before .before .before in let p = given e in let n = e .edge-length .result .top in let d = e .edge-length .result .bottom in
     let o = own p (v e) (edge e) n d (low e) in
     let m : c .thousandths .result ≡ nearest d n = c .thousandths .ensures ∙ ap (nearest d) (whole e) in
-    lowering-turn (K p) (f p) (v e) (e .before .before .loop .numerators) (e .before .before .loop .denominators) (e .before .before .loop .rounded)
+    lowering-turn (K p) (f p) (p .args .numerators .now) (p .args .denominators .now) (v e) (e .before .before .loop .numerators) (e .before .before .loop .denominators) (e .before .before .loop .rounded)
     (toZ w64 (ofZ w64 n)) d (toZ w64 (ofZ w64 (c .thousandths .result))) (edge e) (few p) (whole e ∙ o .0) (o .1)
     (ap (λ z. toZ w64 (ofZ w64 z)) m ∙ toZ-ofZ (thousandth p (v e) (edge e) n d (low e)) ∙ ap (nearest d) (sym (whole e)))
     (e .before .before .loop .inv)
@@ -148,7 +148,7 @@ same-length-2 : tie.Need-same-length-2 Inv-loop μ-loop
 same-length-2 c = c .before .loop .inv .bottoms-size ∙ sym (c .before .before .before .before .pre .1 .1 .1)
 
 returns : tie.Need-returns Inv-loop μ-loop
-returns c = let p = c .before .before .before .before in lowering-end (K p) (f p) (c .before .loop .v) (c .before .loop .numerators) (c .before .loop .denominators) (c .before .loop .rounded) (omega arith) (c .before .loop .inv)
+returns c = let p = c .before .before .before .before in lowering-end (K p) (f p) (p .args .numerators .now) (p .args .denominators .now) (c .before .loop .v) (c .before .loop .numerators) (c .before .loop .denominators) (c .before .loop .rounded) (omega arith) (c .before .loop .inv)
 
 pub fill-spec : {M : Type 1} → statement M
 fill-spec =

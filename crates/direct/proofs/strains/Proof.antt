@@ -12,6 +12,7 @@ use Rattle.verdict.specs.Table.{count}
 use Rattle.verdict.proofs.Table.{count-le}
 use Rattle.tree.specs.Chain.{parentOf, below}
 use Rattle.tree.proofs.Masks.{cluster-size}
+use Rattle.direct.specs.Averages.{cluster}
 use Rattle.direct.proofs.Sizes.{size-count}
 use Rattle.direct.proofs.strains.Statement.{statement}
 use Rattle.direct.proofs.strains.Tie as tie
@@ -31,7 +32,7 @@ cast-result c = search needs
 returns : tie.Need-returns
 returns c = let p = c .before .before in let N = p .args .n in let par = parentOf (p .args .parents .now) in let v = p .args .v in
     let e : c .strains-below .result ≡ count N (λ i. below par i v) = c .strains-below .ensures ∙ ap ones (p .pre .0 .masks v (p .pre .1)) ∙ cluster-size N par v in
-    ap (toZ w64) e ∙ back-pos (count N (λ i. below par i v)) (omega (arith, count-le N (λ i. below par i v), p .pre .0 .allowed .few)) ∙ sym (size-count N par v)
+    ap (toZ w64) e ∙ back-pos (count N (λ i. below par i v)) (omega (arith, count-le N (λ i. below par i v), p .pre .0 .allowed .few)) ∙ sym (size-count N (cluster par v))
 
 pub strains-spec : {M : Type 1} → statement M
 strains-spec =
