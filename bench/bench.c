@@ -84,8 +84,10 @@ int main(void) {
                 printf("a sheet that is not accepted: N = %u, %s\n", n, shapes[shape]);
                 return 1;
             }
-            double a = time_of(ours), b = time_of(pass), c = time_of(triple);
-            printf("| %u | %s | %.0f | %.0f | %.0f | %.2f | %.4f |\n", n, shapes[shape], a, b, c, a / b, a / c);
+            double ns[3];
+            least(3, (void (*const[])(void)){ours, pass, triple}, ns);
+            printf("| %u | %s | %.0f | %.0f | %.0f | %.2f | %.4f |\n", n, shapes[shape], ns[0], ns[1], ns[2],
+                   ns[0] / ns[1], ns[0] / ns[2]);
         }
     }
     return 0;

@@ -42,8 +42,9 @@ int main(void) {
                 printf("the two fits differ: N = %u, %s\n", n, shapes[shape]);
                 return 1;
             }
-            double a = time_of(ours), b = time_of(plain);
-            printf("| %u | %s | %.0f | %.0f | %.2f |\n", n, shapes[shape], a, b, a / b);
+            double ns[2];
+            least(2, (void (*const[])(void)){ours, plain}, ns);
+            printf("| %u | %s | %.0f | %.0f | %.2f |\n", n, shapes[shape], ns[0], ns[1], ns[0] / ns[1]);
         }
     }
     return 0;

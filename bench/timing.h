@@ -12,24 +12,27 @@ static double now(void) {
     return (double)t.tv_sec * 1e9 + (double)t.tv_nsec;
 }
 
-/* The least of five runs, each of at least 20 ms. */
-static double time_of(void (*call)(void)) {
-    double best = 1e18;
-    for (int run = 0; run < 5; run++) {
-        long calls = 0;
+/* Of each call the least of fifteen rounds, each of at least 5 ms. The calls take turns, so that what else the machine
+ * does falls on all of them. */
+static void least(int count, void (*const calls[])(void), double best[]) {
+    for (int which = 0; which < count; which++) {
+        best[which] = 1e18;
+    }
+    for (int turn = 0; turn < 15 * count; turn++) {
+        int which = turn % count;
+        long done = 0;
         double start = now(), end;
         do {
-            for (int k = 0; k < 16; k++) {
-                call();
+            for (int k = 0; k < 4; k++) {
+                calls[which]();
             }
-            calls += 16;
+            done += 4;
             end = now();
-        } while (end - start < 2e7);
-        if ((end - start) / (double)calls < best) {
-            best = (end - start) / (double)calls;
+        } while (end - start < 5e6);
+        if ((end - start) / (double)done < best[which]) {
+            best[which] = (end - start) / (double)done;
         }
     }
-    return best;
 }
 
 #endif

@@ -1,6 +1,6 @@
 /* The verdict on a sheet and the direct fit of a resolved tree, for programs in C. Both functions are proved: for
  * whatever they are lent they return 0 where it is accepted and otherwise the number of refusal, and they read and
- * write nothing outside it. Link with libsheet.a, or with libdirect.a for the fit. */
+ * write nothing outside it. Link with libsheet.a, or with libresolving.a for the fit. */
 #ifndef VAMUTHEXA_H
 #define VAMUTHEXA_H
 
@@ -33,7 +33,8 @@ uint32_t sheet_verdict(const uint8_t *sheet, size_t length);
 /* The lengths of a resolved tree of n strains that fit the distances best. Every table comes as a pointer and how
  * many entries it has: n(n-1)/2 distances, one parent for each of K edges, and three buffers of K entries for the
  * numerators and denominators in lowest terms and for the lengths in thousandths. The number is 4, 6 to 10, 25 or
- * 15, or 0 where the buffers are filled; otherwise they are as they were. Link with libdirect.a. */
+ * 15, or 0 where the buffers are filled; otherwise they are as they were. No buffer may overlap another, nor a
+ * table that is lent beside it. Link with libresolving.a. */
 uint32_t resolved_lengths(uint32_t n, const uint16_t *distances, size_t distance_count, const uint8_t *parents,
                           size_t parent_count, int64_t *numerators, size_t numerator_count, uint32_t *denominators,
                           size_t denominator_count, int64_t *rounded, size_t rounded_count);

@@ -22,6 +22,11 @@ use Rattle.exact.proofs.Sum.{sum-cong, sum-+, sum-*, sum-zero, sum-nn, 
 
 -- ---- paths are linear in the table
 module _ {I : Type 0} (K : ℕ) (parts : ℕ → I → Bool) where
+  -- tables that agree below K have one path
+  pub path-cong : (x y : ℕ → ℤ) → ((v : ℕ) → v < K → x v ≡ y v) → (p : I) → path K parts x p ≡ path K parts y p
+  unfolding path
+  path-cong x y h p = sum-cong K (λ v l. ap (λ (z : ℤ). ind (parts v p) *ℤ z) (h v l))
+
   pub path-lin : (a b : ℤ) (x y : ℕ → ℤ) (p : I)
       → path K parts (λ v. a *ℤ x v -ℤ b *ℤ y v) p ≡ a *ℤ path K parts x p -ℤ b *ℤ path K parts y p
   unfolding path

@@ -1,6 +1,6 @@
 -- The laws of `nearest`, the rounding to thousandths.
 -- `nearest-near` is what the theorems on rounded lengths use. `nearest-is` and `nearest-only` say that the definition is
--- document 01's words and nothing else. `nearest-bound` is for its range. `nearest-vectors` are examples.
+-- document 01's words and nothing else. `nearest-bound` is for its range.
 use mathlib.Core.Path.{_≡_, refl, sym, _∙_, ap, subst}
 use mathlib.Core.List.{[], _∷_}
 use mathlib.Core.Logic.{_⊎_, inl, inr}
@@ -14,12 +14,6 @@ use Rattle.exact.proofs.Quote.{by-ring, quote}
 use Rattle.exact.proofs.Linear.{lin, le→, →le, →eq}
 use Rattle.exact.proofs.Range.{within-neg}
 use Rattle.exact.proofs.Sign.{natAbs-neg, natAbs-mul, within→abs, abs→within, lt-or-ge}
-
--- computed: 15/16 and -15/16, both ties (937.5); 163/24 (6791.67); -1/6 (-166.67); 13/16, a tie (812.5)
-pub nearest-vectors : (nearest 16 (pos 15) ≡ pos 938) × (nearest 16 (negsuc 14) ≡ negsuc 937) × (nearest 24 (pos 163) ≡ pos 6792)
-    × (nearest 6 (negsuc 0) ≡ negsuc 166) × (nearest 16 (pos 13) ≡ pos 813)
-unfolding nearest
-nearest-vectors = (refl, refl, refl, refl, refl)
 
 -- ---- zero or more: the quotient q of 2A + D by 2D has -D ≤ 2(A - Dq) < D
 module _ (D A : ℕ) (some : 1 ≤ D) where

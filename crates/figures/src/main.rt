@@ -1,16 +1,18 @@
 // Reads sheets from standard input, each led by its length in three bytes, little-endian, and by a byte that is
 // 0 for a sheet of three records, and any other for one without lengths. Prints one line for each: its report,
 // or the direct fit of its tree, with the line ends made spaces, or `refused` and the number.
-use libc::STDIN_FILENO;
-use libc::STDOUT_FILENO;
 ghost use mathlib.Core.Path.{_≡_};
 ghost use Prim.Native.Nat.{_+_, _≤_, _<_};
 ghost use lib.ListN.{length};
 
-fn room() -> [u8; 524288]
-    ensures { λ r. ⌜ 524288 ≡ length r ⌝ }
+// The most bytes that are read, of all the sheets together.
+const SHEETS: usize = 524_288;
+
+// Zeros, room for that many bytes.
+fn room() -> [u8; SHEETS]
+    ensures { λ r. do ⌜ (← ⟦SHEETS⟧ .entry) ≡ length r ⌝ }
 {
-    [0; 524288]
+    [0; SHEETS]
 }
 
 // A line end becomes a space.
@@ -40,16 +42,17 @@ fn text_of(kind: u8, sheet: &[u8], text: &mut [u8]) -> usize
     ensures { λ r. ⌜ (r ≤ length (now (text .exit))) × (length (now (text .exit)) ≡ length (now (text .entry))) ⌝ }
 {
     if kind == 0 {
-        return show::sheet_text(sheet, text);
+        return prints::sheet_text(sheet, text);
     }
-    unfitted::unfitted_text(sheet, text)
+    prints::unfitted_text(sheet, text)
 }
 
+// Writes the print of a sheet out, in one line.
 fn print_line(kind: u8, sheet: &[u8]) {
-    let mut text = show::page();
+    let mut text = prints::page();
     let written = text_of(kind, sheet, &mut text);
     in_one_line(&mut text, written);
-    io::write_all(STDOUT_FILENO, &text[..written]);
+    desk::put_out(written, &text);
 }
 
 // A byte as a wider number.
@@ -86,6 +89,6 @@ fn print_all(s: &[u8]) {
 
 fn main() {
     let mut space = room();
-    let got = io::read_full(STDIN_FILENO, &mut space);
+    let got = desk::take_in(&mut space);
     print_all(&space[..got]);
 }

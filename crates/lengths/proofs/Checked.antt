@@ -10,7 +10,8 @@ use lib.ListN.{length, getD}
 use Rattle.verdict.specs.Number.{test, _orElse_}
 use Rattle.verdict.proofs.Answers.{orElse-zero, test-zero, or-none}
 use Rattle.verdict.proofs.Table.{some-no, some-none}
-use Rattle.lengths.specs.Limits.{maxDenominator, maxNumerator, maxEdges}
+use Rattle.trees.specs.Limits.{maxEdges}
+use Rattle.lengths.specs.Limits.{maxDenominator, maxNumerator}
 use Rattle.lengths.specs.Tests.{lengthsNumber, edgesOut, denominatorOut, numeratorOut}
 use Rattle.lengths.specs.Proper.{Proper}
 use Rattle.lengths.proofs.Answered.{is-0}

@@ -10,7 +10,7 @@ use Rattle.verdict.proofs.Answers.{same-answer}
 use Rattle.lengths.specs.declared.Lengths.{Lengths}
 use Rattle.lengths.specs.declared.Proposed.{Proposed}
 use Rattle.lengths.specs.Tests.{lengthsNumber}
-use Rattle.lengths.specs.Kept.{Held, None, LengthsAnswer}
+use Rattle.lengths.specs.Kept.{Kept, Blank, LengthsAnswer}
 
 -- equal parts, equal wholes
 same-lengths : (a b : Lengths) → a .denominator ≡ b .denominator → a .edges ≡ b .edges → a .numerators ≡ b .numerators → a ≡ b
@@ -26,12 +26,12 @@ same-proposed r s e f = ap₂ (λ (v : Verdict) (l : Lengths). whole v l) e f
     whole : Verdict → Lengths → Proposed
     whole v l = record { verdict = v; lengths = l }
 
-pub one-proposal : (edges D : ℕ) (ns : List ℤ) (r s : Proposed) → LengthsAnswer edges D ns r → LengthsAnswer edges D ns s → r ≡ s
-one-proposal edges D ns r s p q = same-proposed r s (same-answer (r .verdict) (s .verdict) (p .number ∙ sym (q .number)))
-    (by-cases (ℕ-discrete (lengthsNumber edges D ns) 0) (λ z. held (p .held z) (q .held z)) (λ z. none (p .none z) (q .none z)))
+pub one-lengths : (edges D : ℕ) (ns : List ℤ) (r s : Proposed) → LengthsAnswer edges D ns r → LengthsAnswer edges D ns s → r ≡ s
+one-lengths edges D ns r s p q = same-proposed r s (same-answer (r .verdict) (s .verdict) (p .number ∙ sym (q .number)))
+    (by-cases (ℕ-discrete (lengthsNumber edges D ns) 0) (λ z. kept (p .kept z) (q .kept z)) (λ z. blank (p .blank z) (q .blank z)))
   where
-    held : Held D ns (r .lengths) → Held D ns (s .lengths) → r .lengths ≡ s .lengths
-    held a b = same-lengths (r .lengths) (s .lengths) (a .denominator ∙ sym (b .denominator)) (a .edges ∙ sym (b .edges)) (a .numerators ∙ sym (b .numerators))
+    kept : Kept D ns (r .lengths) → Kept D ns (s .lengths) → r .lengths ≡ s .lengths
+    kept a b = same-lengths (r .lengths) (s .lengths) (a .denominator ∙ sym (b .denominator)) (a .edges ∙ sym (b .edges)) (a .numerators ∙ sym (b .numerators))
 
-    none : None (r .lengths) → None (s .lengths) → r .lengths ≡ s .lengths
-    none a b = same-lengths (r .lengths) (s .lengths) (a .denominator ∙ sym (b .denominator)) (a .edges ∙ sym (b .edges)) (a .numerators ∙ sym (b .numerators))
+    blank : Blank (r .lengths) → Blank (s .lengths) → r .lengths ≡ s .lengths
+    blank a b = same-lengths (r .lengths) (s .lengths) (a .denominator ∙ sym (b .denominator)) (a .edges ∙ sym (b .edges)) (a .numerators ∙ sym (b .numerators))

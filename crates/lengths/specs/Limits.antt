@@ -8,7 +8,3 @@ maxDenominator = 1000000
 -- numerators: -100,000,000,000 to 100,000,000,000
 abbrev pub maxNumerator : ℕ
 maxNumerator = 100000000000
-
--- no allowed tree has more edges: 2·64 - 3
-abbrev pub maxEdges : ℕ
-maxEdges = 125

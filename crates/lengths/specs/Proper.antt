@@ -4,7 +4,8 @@ use mathlib.Core.List.{List}
 use Prim.Native.Nat.{ℕ, _≤_, _<_}
 use lib.IntN.{ℤ, pos, natAbs}
 use lib.ListN.{length, getD}
-use Rattle.lengths.specs.Limits.{maxDenominator, maxNumerator, maxEdges}
+use Rattle.trees.specs.Limits.{maxEdges}
+use Rattle.lengths.specs.Limits.{maxDenominator, maxNumerator}
 
 pub record Proper (edges D : ℕ) (ns : List ℤ) : Type 0 where
   pub whole : length ns ≡ edges

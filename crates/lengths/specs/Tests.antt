@@ -7,7 +7,8 @@ use lib.IntN.{ℤ, pos, natAbs}
 use lib.ListN.{length, getD}
 use Rattle.verdict.specs.Number.{test, _orElse_}
 use Rattle.verdict.specs.Table.{some}
-use Rattle.lengths.specs.Limits.{maxDenominator, maxNumerator, maxEdges}
+use Rattle.trees.specs.Limits.{maxEdges}
+use Rattle.lengths.specs.Limits.{maxDenominator, maxNumerator}
 
 -- 11: K, the count of numerators, not V - 1. No allowed tree has more than 125 edges, so more are refused here too.
 abbrev pub edgesOut : ℕ → List ℤ → Bool

@@ -7,9 +7,11 @@ ghost use Prim.Native.Nat.{_≤_};
 ghost use lib.IntN.{pos};
 ghost use lib.ListN.{length, getD};
 ghost use Rattle.exact.specs.Table.{table};
-ghost use Rattle.lengths.specs.Limits.{maxDenominator, maxNumerator, maxEdges};
-ghost use Rattle.lengths.specs.Tests.{numeratorOut};
-ghost use Rattle.lengths.specs.Kept.{None, LengthsAnswer};
+ghost use Rattle.verdict.specs.Number.{numberOf};
+ghost use Rattle.trees.specs.Limits.{maxEdges};
+ghost use Rattle.lengths.specs.Limits.{maxDenominator, maxNumerator};
+ghost use Rattle.lengths.specs.Tests.{numeratorOut, lengthsNumber};
+ghost use Rattle.lengths.specs.Kept.{LengthsAnswer};
 
 // The length of edge v is numerators[v] / denominator; behind the edges stand zeros.
 pub struct Lengths {
@@ -29,32 +31,26 @@ impl Lengths {
     // How far a numerator may be from 0.
     pub const MAX_NUMERATOR: u64 = 100_000_000_000;
 
-    // 11, 12, 13, the first that applies, for any count of edges, any d and any slice. A refusal carries
-    // no edges and zeros.
+    // The answer of the check, and the lengths where they are accepted; a refusal carries no edges and zeros.
     pub fn new(edges: usize, d: u32, numerators: &[i64]) -> Proposed
         ensures { λ r. ⌜ LengthsAnswer edges d (now (numerators .entry)) r ⌝ }
     {
-        if numerators.len() != edges {
-            return refused(Reason::Edges);
-        }
-        if edges > Tree::MAX_EDGES {
-            return refused(Reason::Edges);
-        }
-        if d < 1 {
-            return refused(Reason::Denominator);
-        }
-        if d > Lengths::MAX_DENOMINATOR {
-            return refused(Reason::Denominator);
-        }
-        if some_numerator_out(numerators) {
-            return refused(Reason::Numerator);
-        }
-        Proposed {
-            verdict: Verdict::Accepted,
-            lengths: Lengths {
-                denominator: d,
-                edges,
-                numerators: copied(numerators),
+        match check_lengths(edges, d, numerators) {
+            Verdict::Accepted => Proposed {
+                verdict: Verdict::Accepted,
+                lengths: Lengths {
+                    denominator: d,
+                    edges,
+                    numerators: copied(numerators),
+                },
+            },
+            Verdict::Refused(reason) => Proposed {
+                verdict: Verdict::Refused(reason),
+                lengths: Lengths {
+                    denominator: 0,
+                    edges: 0,
+                    numerators: no_lengths(),
+                },
             },
         }
     }
@@ -64,16 +60,14 @@ impl Lengths {
 pub struct Limits {
     pub denominator: u32,
     pub numerator: u64,
-    pub edges: usize,
 }
 
 pub fn stated_limits() -> Limits
-    ensures { λ r. ⌜ (r .denominator ≡ maxDenominator) × (r .numerator ≡ maxNumerator) × (r .edges ≡ maxEdges) ⌝ }
+    ensures { λ r. ⌜ (r .denominator ≡ maxDenominator) × (r .numerator ≡ maxNumerator) ⌝ }
 {
     Limits {
         denominator: Lengths::MAX_DENOMINATOR,
         numerator: Lengths::MAX_NUMERATOR,
-        edges: Tree::MAX_EDGES,
     }
 }
 
@@ -83,7 +77,7 @@ fn some_numerator_out(numerators: &[i64]) -> bool
 {
     let mut v = 0;
     while v < numerators.len() {
-        if exact::magnitude(numerators[v]) > Lengths::MAX_NUMERATOR {
+        if arithmetic::magnitude(numerators[v]) > Lengths::MAX_NUMERATOR {
             return true;
         }
         v += 1;
@@ -91,36 +85,45 @@ fn some_numerator_out(numerators: &[i64]) -> bool
     false
 }
 
-fn zeros() -> [i64; Tree::MAX_EDGES]
-    ensures { λ r. ⌜ r ≡ table 125 (λ _. pos 0) ⌝ }
+// 11, 12, 13, the first that applies, for any count of edges, any d and any slice.
+pub fn check_lengths(edges: usize, d: u32, numerators: &[i64]) -> Verdict
+    ensures { λ r. ⌜ numberOf r ≡ lengthsNumber edges d (now (numerators .entry)) ⌝ }
+{
+    if numerators.len() != edges {
+        return Verdict::Refused(Reason::Edges);
+    }
+    if edges > Tree::MAX_EDGES {
+        return Verdict::Refused(Reason::Edges);
+    }
+    if d < 1 {
+        return Verdict::Refused(Reason::Denominator);
+    }
+    if d > Lengths::MAX_DENOMINATOR {
+        return Verdict::Refused(Reason::Denominator);
+    }
+    if some_numerator_out(numerators) {
+        return Verdict::Refused(Reason::Numerator);
+    }
+    Verdict::Accepted
+}
+
+// A table of no lengths: zeros, by a function of its own, so that proofs carry a name in place of every entry.
+pub fn no_lengths() -> [i64; Tree::MAX_EDGES]
+    ensures { λ r. ⌜ r ≡ table maxEdges (λ _. pos 0) ⌝ }
 {
     [0; Tree::MAX_EDGES]
 }
 
 // The numerators, then zeros.
 fn copied(numerators: &[i64]) -> [i64; Tree::MAX_EDGES]
-    requires { ⌜ length (now numerators) ≤ 125 ⌝ }
-    ensures { λ r. ⌜ r ≡ table 125 (λ v. getD (now (numerators .entry)) v (pos 0)) ⌝ }
+    requires { ⌜ length (now numerators) ≤ maxEdges ⌝ }
+    ensures { λ r. ⌜ r ≡ table maxEdges (λ v. getD (now (numerators .entry)) v (pos 0)) ⌝ }
 {
-    let mut kept = zeros();
+    let mut kept = no_lengths();
     let mut v = 0;
     while v < numerators.len() {
         kept[v] = numerators[v];
         v += 1;
     }
     kept
-}
-
-// A refusal, with no lengths.
-fn refused(reason: Reason) -> Proposed
-    ensures { λ r. ⌜ (r .verdict ≡ Verdict.Refused reason) × None (r .lengths) ⌝ }
-{
-    Proposed {
-        verdict: Verdict::Refused(reason),
-        lengths: Lengths {
-            denominator: 0,
-            edges: 0,
-            numerators: zeros(),
-        },
-    }
 }

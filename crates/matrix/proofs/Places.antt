@@ -1,13 +1,14 @@
 -- The places of the pairs: `row-code` is what the code computes, `place-bound` and `place-onto` say that the pairs fill exactly
 -- the places below N(N-1)/2, and `place-one` that no two share a place.
-use mathlib.Core.Path.{_≡_, refl, sym, ap, subst}
+use mathlib.Core.Path.{_≡_, refl, sym, _∙_, ap, subst}
 use Prim.Native.Nat.{ℕ, zero, suc, _+_, _-_, _*_, _/_, _≤_, _<_}
 use native.Mathlib.Decide.{decLt, ℕ-discrete}
 use native.Mathlib.Nat.{mul-le-mul}
 use native.Mathlib.Omega.{arith}
+use borrow.Author.Tests.{lt-ltb, le-ltb}
 use Rattle.exact.proofs.Decide.{by-cases}
-use Rattle.matrix.specs.Limits.{maxStrains}
-use Rattle.matrix.specs.Place.{pairCount, rowStart, place}
+use Rattle.matrix.specs.Limits.{maxStrains, maxPairs}
+use Rattle.matrix.specs.Place.{pairCount, rowStart, place, pairPlace}
 
 row-closed : (N i : ℕ) → i ≤ N → 2 * rowStart N i + i * (i + 1) ≡ 2 * (i * N)
 unfolding rowStart
@@ -80,5 +81,21 @@ unfolding place
 place-next N i j h = omega arith
 
 -- the most strains have 2,016 pairs
-pub pairs-few : (N : ℕ) → N ≤ maxStrains → pairCount N ≤ 2016
+pub pairs-few : (N : ℕ) → N ≤ maxStrains → pairCount N ≤ maxPairs
 pairs-few N h = omega (arith, mul-le-mul {n₁ = N} {m₁ = N - 1} {n₂ = 64} {m₂ = 63} h (omega arith))
+
+-- a pair's place, whichever strain is named first
+pub pair-place-up : (N i j : ℕ) → i < j → pairPlace N i j ≡ place N i j
+unfolding pairPlace
+pair-place-up N i j h = rw (lt-ltb i j h)
+
+pub pair-place-down : (N i j : ℕ) → j ≤ i → pairPlace N i j ≡ place N j i
+unfolding pairPlace
+pair-place-down N i j h = rw (le-ltb i j h)
+
+pub pair-place-sym : (N i j : ℕ) → pairPlace N i j ≡ pairPlace N j i
+pair-place-sym N i j = by-cases (decLt i j)
+    (λ l. pair-place-up N i j l ∙ sym (pair-place-down N j i (omega arith)))
+    (λ l. by-cases (decLt j i)
+    (λ k. pair-place-down N i j (omega arith) ∙ sym (pair-place-up N j i k))
+    (λ k. let e : i ≡ j = omega arith in rw e))

@@ -9,7 +9,7 @@ use Rattle.verdict.proofs.Answers.{same-answer}
 use Rattle.matrix.specs.declared.Matrix.{Matrix}
 use Rattle.matrix.specs.declared.Measured.{Measured}
 use Rattle.matrix.specs.Tests.{matrixNumber}
-use Rattle.matrix.specs.Kept.{Held, Blank, MatrixAnswer}
+use Rattle.matrix.specs.Kept.{Kept, Blank, MatrixAnswer}
 
 -- equal parts, equal wholes
 same-matrix : (a b : Matrix) → a .n ≡ b .n → a .distances ≡ b .distances → a ≡ b
@@ -24,8 +24,8 @@ same-measured r s e f = ap₂ (λ (v : Verdict) (m : Matrix). as-measured v m) e
     as-measured : Verdict → Matrix → Measured
     as-measured v m = record { verdict = v; matrix = m }
 
-same-held : (N : ℕ) (ds : List ℕ) (a b : Matrix) → Held N ds a → Held N ds b → a ≡ b
-same-held N ds a b p q = same-matrix a b (p .strains ∙ sym (q .strains)) (p .distances ∙ sym (q .distances))
+same-kept : (N : ℕ) (ds : List ℕ) (a b : Matrix) → Kept N ds a → Kept N ds b → a ≡ b
+same-kept N ds a b p q = same-matrix a b (p .strains ∙ sym (q .strains)) (p .distances ∙ sym (q .distances))
 
 same-blank : (a b : Matrix) → Blank a → Blank b → a ≡ b
 same-blank a b p q = same-matrix a b (p .strains ∙ sym (q .strains)) (p .distances ∙ sym (q .distances))
@@ -33,5 +33,5 @@ same-blank a b p q = same-matrix a b (p .strains ∙ sym (q .strains)) (p .dista
 pub one-matrix : (N : ℕ) (ds : List ℕ) (r s : Measured) → MatrixAnswer N ds r → MatrixAnswer N ds s → r ≡ s
 one-matrix N ds r s p q = same-measured r s (same-answer (r .verdict) (s .verdict) (p .number ∙ sym (q .number)))
     (by-cases (ℕ-discrete (matrixNumber N ds) 0)
-    (λ z. same-held N ds (r .matrix) (s .matrix) (p .held z) (q .held z))
+    (λ z. same-kept N ds (r .matrix) (s .matrix) (p .kept z) (q .kept z))
     (λ z. same-blank (r .matrix) (s .matrix) (p .blank z) (q .blank z)))

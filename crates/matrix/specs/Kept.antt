@@ -7,20 +7,21 @@ use Rattle.exact.specs.Table.{table}
 use Rattle.verdict.specs.Number.{numberOf}
 use Rattle.matrix.specs.declared.Matrix.{Matrix}
 use Rattle.matrix.specs.declared.Measured.{Measured}
+use Rattle.matrix.specs.Limits.{maxPairs}
 use Rattle.matrix.specs.Tests.{matrixNumber}
 
 -- a matrix that passed: its distances, followed by zeros
-pub record Held (N : ℕ) (ds : List ℕ) (m : Matrix) : Type 0 where
+pub record Kept (N : ℕ) (ds : List ℕ) (m : Matrix) : Type 0 where
   pub strains : m .n ≡ N
-  pub distances : m .distances ≡ table 2016 (λ k. getD ds k 0)
+  pub distances : m .distances ≡ table maxPairs (λ k. getD ds k 0)
 
 -- no strains, zeros
 pub record Blank (m : Matrix) : Type 0 where
   pub strains : m .n ≡ 0
-  pub distances : m .distances ≡ table 2016 (λ _. 0)
+  pub distances : m .distances ≡ table maxPairs (λ _. 0)
 
 -- the whole answer
 pub record MatrixAnswer (N : ℕ) (ds : List ℕ) (r : Measured) : Type 0 where
   pub number : numberOf (r .verdict) ≡ matrixNumber N ds
-  pub held : matrixNumber N ds ≡ 0 → Held N ds (r .matrix)
+  pub kept : matrixNumber N ds ≡ 0 → Kept N ds (r .matrix)
   pub blank : (matrixNumber N ds ≡ 0 → ⊥) → Blank (r .matrix)

@@ -11,3 +11,7 @@ maxStrains = 64
 -- distances: 0 to 50,000
 abbrev pub maxDistance : ℕ
 maxDistance = 50000
+
+-- no matrix has more pairs: 64·63/2
+abbrev pub maxPairs : ℕ
+maxPairs = 2016

@@ -2,13 +2,15 @@
 use verdict::Reason;
 use verdict::Verdict;
 ghost use mathlib.Core.Path.{_≡_};
+ghost use mathlib.Core.Logic.{_≢_};
 ghost use Prim.Native.Nat.{_≤_, _<_};
 ghost use lib.ListN.{length, getD};
 ghost use Rattle.exact.specs.Table.{table};
-ghost use Rattle.matrix.specs.Limits.{minStrains, maxStrains, maxDistance};
-ghost use Rattle.matrix.specs.Place.{pairCount, place};
-ghost use Rattle.matrix.specs.Tests.{distanceOut};
-ghost use Rattle.matrix.specs.Kept.{Blank, MatrixAnswer};
+ghost use Rattle.verdict.specs.Number.{numberOf};
+ghost use Rattle.matrix.specs.Limits.{minStrains, maxStrains, maxDistance, maxPairs};
+ghost use Rattle.matrix.specs.Place.{pairCount, place, pairPlace};
+ghost use Rattle.matrix.specs.Tests.{distanceOut, matrixNumber};
+ghost use Rattle.matrix.specs.Kept.{MatrixAnswer};
 
 // The distances between n strains, in the order 01, 02, .., 0(n-1), 12, 13, .., then zeros.
 pub struct Matrix {
@@ -31,28 +33,24 @@ impl Matrix {
     // As many pairs as the most strains have.
     pub const MAX_PAIRS: usize = Matrix::MAX_STRAINS * (Matrix::MAX_STRAINS - 1) / 2;
 
-    // 4, 6, 7, the first that applies, for any n and any slice. A refusal carries no strains and zeros.
+    // The answer of the check, and the matrix where it is accepted; a refusal carries no strains and zeros.
     pub fn new(n: u32, distances: &[u16]) -> Measured
         ensures { λ r. ⌜ MatrixAnswer n (now (distances .entry)) r ⌝ }
     {
-        if distances.len() as u64 != pair_count(n) {
-            return refused(Reason::WrongCounts);
-        }
-        let strains = n as usize;
-        if strains < Matrix::MIN_STRAINS {
-            return refused(Reason::Strains);
-        }
-        if strains > Matrix::MAX_STRAINS {
-            return refused(Reason::Strains);
-        }
-        if some_distance_out(distances) {
-            return refused(Reason::Distance);
-        }
-        Measured {
-            verdict: Verdict::Accepted,
-            matrix: Matrix {
-                n: strains,
-                distances: copied(distances),
+        match check_matrix(n, distances) {
+            Verdict::Accepted => Measured {
+                verdict: Verdict::Accepted,
+                matrix: Matrix {
+                    n: n as usize,
+                    distances: copied(distances),
+                },
+            },
+            Verdict::Refused(reason) => Measured {
+                verdict: Verdict::Refused(reason),
+                matrix: Matrix {
+                    n: 0,
+                    distances: zeros(),
+                },
             },
         }
     }
@@ -63,15 +61,17 @@ pub struct Limits {
     pub fewest: usize,
     pub most: usize,
     pub farthest: u16,
+    pub pairs: usize,
 }
 
 pub fn stated_limits() -> Limits
-    ensures { λ r. ⌜ (r .fewest ≡ minStrains) × (r .most ≡ maxStrains) × (r .farthest ≡ maxDistance) ⌝ }
+    ensures { λ r. ⌜ (r .fewest ≡ minStrains) × (r .most ≡ maxStrains) × (r .farthest ≡ maxDistance) × (r .pairs ≡ maxPairs) ⌝ }
 {
     Limits {
         fewest: Matrix::MIN_STRAINS,
         most: Matrix::MAX_STRAINS,
         farthest: Matrix::MAX_DISTANCE,
+        pairs: Matrix::MAX_PAIRS,
     }
 }
 
@@ -94,6 +94,17 @@ pub fn place(n: usize, i: usize, j: usize) -> usize
     i * (2 * n - i - 1) / 2 + (j - i - 1)
 }
 
+// Where the pair of two strains stands among the distances, whichever is named first.
+pub fn pair_place(n: usize, i: usize, j: usize) -> usize
+    requires { ⌜ (i < n) × (j < n) × (i ≢ j) × (n ≤ maxStrains) ⌝ }
+    ensures { λ r. ⌜ r ≡ pairPlace n i j ⌝ }
+{
+    if i < j {
+        return place(n, i, j);
+    }
+    place(n, j, i)
+}
+
 // Some distance is above its limit.
 fn some_distance_out(distances: &[u16]) -> bool
     ensures { λ r. ⌜ r ≡ distanceOut (now (distances .entry)) ⌝ }
@@ -108,16 +119,36 @@ fn some_distance_out(distances: &[u16]) -> bool
     false
 }
 
+// 4, 6, 7, the first that applies, for any n and any slice.
+pub fn check_matrix(n: u32, distances: &[u16]) -> Verdict
+    ensures { λ r. ⌜ numberOf r ≡ matrixNumber n (now (distances .entry)) ⌝ }
+{
+    if distances.len() as u64 != pair_count(n) {
+        return Verdict::Refused(Reason::WrongCounts);
+    }
+    let strains = n as usize;
+    if strains < Matrix::MIN_STRAINS {
+        return Verdict::Refused(Reason::Strains);
+    }
+    if strains > Matrix::MAX_STRAINS {
+        return Verdict::Refused(Reason::Strains);
+    }
+    if some_distance_out(distances) {
+        return Verdict::Refused(Reason::Distance);
+    }
+    Verdict::Accepted
+}
+
 fn zeros() -> [u16; Matrix::MAX_PAIRS]
-    ensures { λ r. ⌜ r ≡ table 2016 (λ _. 0) ⌝ }
+    ensures { λ r. ⌜ r ≡ table maxPairs (λ _. 0) ⌝ }
 {
     [0; Matrix::MAX_PAIRS]
 }
 
 // The distances, then zeros.
 fn copied(distances: &[u16]) -> [u16; Matrix::MAX_PAIRS]
-    requires { ⌜ length (now distances) ≤ 2016 ⌝ }
-    ensures { λ r. ⌜ r ≡ table 2016 (λ k. getD (now (distances .entry)) k 0) ⌝ }
+    requires { ⌜ length (now distances) ≤ maxPairs ⌝ }
+    ensures { λ r. ⌜ r ≡ table maxPairs (λ k. getD (now (distances .entry)) k 0) ⌝ }
 {
     let mut kept = zeros();
     let mut k = 0;
@@ -126,17 +157,4 @@ fn copied(distances: &[u16]) -> [u16; Matrix::MAX_PAIRS]
         k += 1;
     }
     kept
-}
-
-// A refusal, with the blank matrix.
-fn refused(reason: Reason) -> Measured
-    ensures { λ r. ⌜ (r .verdict ≡ Verdict.Refused reason) × Blank (r .matrix) ⌝ }
-{
-    Measured {
-        verdict: Verdict::Refused(reason),
-        matrix: Matrix {
-            n: 0,
-            distances: zeros(),
-        },
-    }
 }

@@ -1,10 +1,3 @@
-pub mod Numbers
-pub mod Heads
-pub mod InTurn
-pub mod Decoding
-pub mod Fronts
-pub mod Formed
-pub mod WithoutLengths
-pub mod Accepted
-pub mod Readable
-pub mod Example
+pub mod Fits
+pub mod Laws
+pub mod Settled

@@ -1,7 +1,1 @@
-pub mod Bytes
-pub mod Form
-pub mod Holds
-pub mod Laid
-pub mod Tests
-pub mod Bare
-pub mod Reads
+pub mod Reports

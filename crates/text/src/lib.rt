@@ -46,8 +46,8 @@ pub fn put_signed(text: &mut [u8], at: usize, z: i64) -> usize
     ensures { λ r. ⌜ Wrote (now (text .entry)) (now (text .exit)) at (signed z) r ⌝ }
 {
     if z >= 0 {
-        return put_number(text, at, exact::magnitude(z));
+        return put_number(text, at, arithmetic::magnitude(z));
     }
     let next = put(text, at, b'-');
-    put_number(text, next, exact::magnitude(z))
+    put_number(text, next, arithmetic::magnitude(z))
 }

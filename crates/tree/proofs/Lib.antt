@@ -1,15 +1,2 @@
-pub mod Chains
-pub mod Strains
-pub mod Union
-pub mod Counts
-pub mod Ways
-pub mod Depth
-pub mod Directions
-pub mod Kernel
-pub mod Checked
-pub mod Faults
-pub mod Handing
-pub mod Masks
-pub mod Numbers
 pub mod Settled
 pub mod Tally

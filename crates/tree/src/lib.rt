@@ -1,30 +1,27 @@
-// The strain tree: the parent of each vertex, the tests of such a table, and the clusters as masks.
-// Vertices 0 to n-1 are the strains, the others are inner, and the last is the root. Edge v joins v
+// The strain tree: the parent of each vertex, and the tests of such a table. Vertices 0 to n-1 are the strains, the others are inner, and the last is the root. Edge v joins v
 // to its parent, so there are as many edges as entries in the table.
 use matrix::Matrix;
 use verdict::Reason;
 use verdict::Verdict;
 ghost use mathlib.Core.Path.{_≡_};
-ghost use mathlib.Core.Bool.{cond, not};
-ghost use Prim.Native.Nat.{ℕ, _+_, _^_, _≤_, _<_};
-ghost use lib.Count.{ones};
-ghost use lib.Dec.{ltb, leb};
+ghost use mathlib.Core.Bool.{_||_};
+ghost use Prim.Native.Nat.{ℕ, _+_, _≤_, _<_};
+ghost use lib.Dec.{ltb};
 ghost use lib.ListN.{length, getD};
 ghost use Rattle.exact.specs.Table.{table};
 ghost use Rattle.verdict.specs.Number.{numberOf};
 ghost use Rattle.verdict.specs.Table.{some};
-ghost use Rattle.tree.specs.Chain.{parentOf};
-ghost use Rattle.tree.specs.Allowed.{children, Allowed};
-ghost use Rattle.tree.specs.Tests.{treeNumber, parentOut, childrenFew};
-ghost use Rattle.tree.specs.Cluster.{bitAt, cluster};
-ghost use Rattle.tree.specs.Kept.{Grown, Bare, TreeAnswer};
+ghost use Rattle.trees.specs.Chain.{parentOf};
+ghost use Rattle.trees.specs.Limits.{maxEdges, maxVertices};
+ghost use Rattle.trees.specs.Allowed.{children};
+ghost use Rattle.trees.specs.Tests.{treeNumber, parentOut, childrenOut};
+ghost use Rattle.tree.specs.Kept.{TreeAnswer};
 
-// An allowed tree of n strains: its parents, and the strains below each vertex, bit i for strain i.
+// An allowed tree of n strains: its parents, then zeros.
 pub struct Tree {
     pub n: usize,
     pub edges: usize,
     pub parents: [u8; Tree::MAX_EDGES],
-    pub clusters: [u64; Tree::MAX_VERTICES],
 }
 
 // What a table of parents gets: the answer, and the tree where it is accepted.
@@ -57,26 +54,20 @@ fn some_parent_out(n: usize, parents: &[u8]) -> bool
 
 // Zeros, by functions of their own: proofs then carry a name in place of every entry.
 fn no_counts() -> [u8; Tree::MAX_VERTICES]
-    ensures { λ r. ⌜ r ≡ table 126 (λ _. 0) ⌝ }
+    ensures { λ r. ⌜ r ≡ table maxVertices (λ _. 0) ⌝ }
 {
     [0; Tree::MAX_VERTICES]
 }
 
 fn no_parents() -> [u8; Tree::MAX_EDGES]
-    ensures { λ r. ⌜ r ≡ table 125 (λ _. 0) ⌝ }
+    ensures { λ r. ⌜ r ≡ table maxEdges (λ _. 0) ⌝ }
 {
     [0; Tree::MAX_EDGES]
 }
 
-fn no_masks() -> [u64; Tree::MAX_VERTICES]
-    ensures { λ r. ⌜ r ≡ table 126 (λ _. 0) ⌝ }
-{
-    [0; Tree::MAX_VERTICES]
-}
-
 // How many children each vertex has: one pass in which each vertex counts at its parent.
-pub fn child_counts(parents: &[u8]) -> [u8; Tree::MAX_VERTICES]
-    requires { ⌜ length (now parents) ≤ 125 ⌝ }
+fn child_counts(parents: &[u8]) -> [u8; Tree::MAX_VERTICES]
+    requires { ⌜ length (now parents) ≤ maxEdges ⌝ }
     requires { ⌜ ((v : ℕ) → v < length (now parents) → parentOf (now parents) v ≤ length (now parents)) ⌝ }
     ensures { λ r. ⌜ ((w : ℕ) → getD r w 0 ≡ children (length (now (parents .entry))) (parentOf (now (parents .entry))) w) ⌝ }
 {
@@ -90,25 +81,32 @@ pub fn child_counts(parents: &[u8]) -> [u8; Tree::MAX_VERTICES]
     counts
 }
 
-// Some inner vertex has fewer than two children, or the root fewer than three.
-fn some_children_few(n: usize, parents: &[u8]) -> bool
-    requires { ⌜ (n ≤ length (now parents)) × (length (now parents) ≤ 125) ⌝ }
+// A count of children below what is needed, or more than `spare` above it.
+fn count_out(count: u8, needed: u8, spare: u8) -> bool
+    ensures { λ r. ⌜ r ≡ (ltb count needed || ltb (needed + spare) count) ⌝ }
+{
+    if count < needed {
+        return true;
+    }
+    count - needed > spare
+}
+
+// Some inner vertex has fewer children than it needs, two, or three at the root, or more than `spare` above that.
+pub fn some_children_out(n: usize, parents: &[u8], spare: u8) -> bool
+    requires { ⌜ (n ≤ length (now parents)) × (length (now parents) ≤ maxEdges) ⌝ }
     requires { ⌜ ((v : ℕ) → v < length (now parents) → parentOf (now parents) v ≤ length (now parents)) ⌝ }
-    ensures { λ r. ⌜ r ≡ some (length (now (parents .entry)) + 1) (childrenFew n (length (now (parents .entry))) (parentOf (now (parents .entry)))) ⌝ }
+    ensures { λ r. ⌜ r ≡ some (length (now (parents .entry)) + 1) (childrenOut spare n (length (now (parents .entry))) (parentOf (now (parents .entry)))) ⌝ }
 {
     let edges = parents.len();
     let counts = child_counts(parents);
     let mut w = n;
     while w < edges {
-        if counts[w] < 2 {
+        if count_out(counts[w], 2, spare) {
             return true;
         }
         w += 1;
     }
-    if counts[edges] < 3 {
-        return true;
-    }
-    false
+    count_out(counts[edges], 3, spare)
 }
 
 // The number of a table of parents, or 0: the tests of document 01 in their order.
@@ -133,47 +131,16 @@ pub fn check_tree(n: u32, parents: &[u8]) -> Verdict
     if some_parent_out(strains, parents) {
         return Verdict::Refused(Reason::Parent);
     }
-    if some_children_few(strains, parents) {
+    if some_children_out(strains, parents, Tree::MAX_EDGES as u8) {
         return Verdict::Refused(Reason::Children);
     }
     Verdict::Accepted
 }
 
-// The masks that clusters start from: each strain holds itself, an inner vertex nothing.
-pub fn own_bits(n: usize) -> [u64; Tree::MAX_VERTICES]
-    requires { ⌜ n ≤ 64 ⌝ }
-    ensures { λ r. ⌜ r ≡ table 126 (λ w. cond (ltb w n) (2 ^ w) 0) ⌝ }
-{
-    let mut masks = no_masks();
-    let mut i = 0;
-    while i < n {
-        masks[i] = 1u64 << i;
-        i += 1;
-    }
-    masks
-}
-
-// The strains below each vertex. Parents are greater than children, so each vertex has its whole
-// mask when its turn comes to hand it to its parent.
-fn clusters(n: usize, parents: &[u8]) -> [u64; Tree::MAX_VERTICES]
-    requires { ⌜ Allowed n (length (now parents)) (parentOf (now parents)) ⌝ }
-    ensures { λ r. ⌜ r ≡ table 126 (λ v. cond (leb v (length (now (parents .entry)))) (cluster n (parentOf (now (parents .entry))) v) 0) ⌝ }
-{
-    let mut masks = own_bits(n);
-    let mut v = 0;
-    while v < parents.len() {
-        let p = parents[v] as usize;
-        let own = masks[v];
-        masks[p] = masks[p] | own;
-        v += 1;
-    }
-    masks
-}
-
 // The parents, then zeros.
 fn copied(parents: &[u8]) -> [u8; Tree::MAX_EDGES]
-    requires { ⌜ length (now parents) ≤ 125 ⌝ }
-    ensures { λ r. ⌜ r ≡ table 125 (parentOf (now (parents .entry))) ⌝ }
+    requires { ⌜ length (now parents) ≤ maxEdges ⌝ }
+    ensures { λ r. ⌜ r ≡ table maxEdges (parentOf (now (parents .entry))) ⌝ }
 {
     let mut copy = no_parents();
     let mut v = 0;
@@ -182,33 +149,6 @@ fn copied(parents: &[u8]) -> [u8; Tree::MAX_EDGES]
         v += 1;
     }
     copy
-}
-
-// The tree of an allowed table.
-fn grown(n: usize, parents: &[u8]) -> Tree
-    requires { ⌜ Allowed n (length (now parents)) (parentOf (now parents)) ⌝ }
-    ensures { λ r. ⌜ Grown n (now (parents .entry)) r ⌝ }
-{
-    let kept = copied(parents);
-    let masks = clusters(n, parents);
-    Tree {
-        n,
-        edges: parents.len(),
-        parents: kept,
-        clusters: masks,
-    }
-}
-
-// What stands in place of a refused tree.
-fn bare() -> Tree
-    ensures { λ r. ⌜ Bare r ⌝ }
-{
-    Tree {
-        n: 0,
-        edges: 0,
-        parents: no_parents(),
-        clusters: no_masks(),
-    }
 }
 
 impl Tree {
@@ -224,39 +164,35 @@ impl Tree {
         match check_tree(n, parents) {
             Verdict::Accepted => Planted {
                 verdict: Verdict::Accepted,
-                tree: grown(n as usize, parents),
+                tree: Tree {
+                    n: n as usize,
+                    edges: parents.len(),
+                    parents: copied(parents),
+                },
             },
             Verdict::Refused(reason) => Planted {
                 verdict: Verdict::Refused(reason),
-                tree: bare(),
+                tree: Tree {
+                    n: 0,
+                    edges: 0,
+                    parents: no_parents(),
+                },
             },
         }
     }
 }
 
-// How many strains a cluster has.
-pub fn strains_below(mask: u64) -> u32
-    ensures { λ r. ⌜ r ≡ ones mask ⌝ }
-{
-    u64::count_ones(mask)
+// The limits as the code has them; the contract says that the definitions have the same.
+pub struct Limits {
+    pub edges: usize,
+    pub vertices: usize,
 }
 
-// Whether a cluster has a strain. No strain has a number past 63.
-pub fn has(mask: u64, strain: u32) -> bool
-    ensures { λ r. ⌜ r ≡ bitAt mask strain ⌝ }
+pub fn stated_limits() -> Limits
+    ensures { λ r. ⌜ (r .edges ≡ maxEdges) × (r .vertices ≡ maxVertices) ⌝ }
 {
-    if strain >= 64 {
-        return false;
+    Limits {
+        edges: Tree::MAX_EDGES,
+        vertices: Tree::MAX_VERTICES,
     }
-    (mask >> strain) % 2 == 1
-}
-
-// Whether a cluster has exactly one of two strains, so that its edge parts them.
-pub fn parted(mask: u64, i: u32, j: u32) -> bool
-    ensures { λ r. ⌜ r ≡ cond (bitAt mask i) (not (bitAt mask j)) (bitAt mask j) ⌝ }
-{
-    if has(mask, i) {
-        return !has(mask, j);
-    }
-    has(mask, j)
 }

@@ -1,116 +1,135 @@
--- The text of the direct fit of what a sheet holds is the print of the sheet.
-use mathlib.Core.Path.{_≡_, refl, sym, _∙_, ap, ap₂, subst}
+-- The direct fit of a sheet, from what its reader handed over: a refusal is the sheet's (`refused-sheet`), and so is the answer to the
+-- degrees of its tree (`degrees-asked`); a fit has its numbers and its three tables (`fitted-sheet`).
+use mathlib.Core.Path.{_≡_, refl, sym, _∙_, ap}
+use mathlib.Core.Bool.{false}
 use mathlib.Core.List.{List, _++_}
-use Prim.Native.Nat.{ℕ, zero, suc, _-_, _≤_, _<_}
+use Prim.Native.Nat.{ℕ, _+_, _-_, _≤_}
 use native.Mathlib.Omega.{arith}
-use lib.IntN.{ℤ, pos, natAbs}
-use lib.ListN.{length, getD, take, drop, length-drop, List·getD-append}
-use lib.Seq.{length-take-le}
+use lib.IntN.{ℤ, pos}
+use lib.ListN.{length, getD, take, drop, length-drop, length-append, List·getD-append}
+use lib.Seq.{length-take-le, getD-drop, getD-append-add}
 use Rattle.exact.specs.Table.{table}
-use Rattle.exact.proofs.Fill.{length-table, getD-table}
-use Rattle.verdict.specs.Number.{numberOf, refusalOf}
+use Rattle.exact.proofs.Fill.{length-table, getD-table, getD-table-const}
+use Rattle.verdict.specs.Number.{numberOf, refusalOf, test}
 use Rattle.verdict.specs.declared.Reason.{Reason}
 use Rattle.verdict.specs.declared.Verdict.{Verdict}
-use Rattle.verdict.specs.declared.Verdict.the-variants.{Refused}
-use Rattle.verdict.proofs.Answers.{refused-row}
-use Rattle.walk.specs.Standing.{entryOf}
-use Rattle.direct.specs.declared.DirectFit.{DirectFit}
-use Rattle.direct.specs.Tests.{directNumber}
-use Rattle.direct.specs.Answers.{topOf, bottomOf, thousandthOf, Resolves, DirectAnswer}
-use Rattle.text.specs.Text.{Wrote}
-use Rattle.print.specs.Lines.{refusedLine, fractionLine, fractionLines, resolvedLine, roundedLine, resolvedText}
-use Rattle.print.proofs.Sizes.{resolved-text-length}
-use Rattle.show.specs.Printed.{pageSize}
-use Rattle.show.proofs.Texts.{text-by-number, fits-page, stays-within}
-use Rattle.sheet.specs.declared.Bare.{Bare}
-use Rattle.sheet.specs.Bare.{BareHeld}
-use Rattle.sheet.specs.Holds.{strainsOf, distancesOf, parentsOf}
-use Rattle.sheet.specs.Tests.{bareNumber}
-use Rattle.unfitted.specs.Shown.{fitShown}
-use Rattle.unfitted.specs.Printed.{heldResolved, unfittedNumber, fitOfUnfitted, unfittedText, UnfittedShown}
-use Rattle.unfitted.proofs.Numbers.{bare-then, past-bare, held-zero, few-edges, buffers-fit}
+use Rattle.verdict.specs.declared.Verdict.the-variants.{Accepted, Refused}
+use Rattle.verdict.proofs.Answers.{not-zero, test-zero}
+use Rattle.trees.specs.Limits.{maxEdges}
+use Rattle.trees.specs.Chain.{parentOf}
+use Rattle.trees.specs.Allowed.{Allowed}
+use Rattle.trees.specs.EdgeTable.{EdgeTable}
+use Rattle.trees.proofs.EdgeTables.{front-kept}
+use Rattle.fit.specs.Stands.{Posted}
+use Rattle.resolution.specs.Tests.{unresolved}
+use Rattle.resolution.specs.Lengths.{topOf, bottomOf, thousandthOf}
+use Rattle.resolving.specs.declared.DirectFit.{DirectFit}
+use Rattle.resolving.specs.Answers.{Resolves}
+use Rattle.reading.specs.declared.Sheet.{Sheet}
+use Rattle.reading.specs.Holds.{strainsOf, distancesOf, parentsOf}
+use Rattle.reading.specs.Reads.{SheetAnswer}
+use Rattle.reading.proofs.Parts.{Parts, accepted, read-parts, of-parts, to-parts}
+use Rattle.reading.proofs.Whole.{two-asked}
+use Rattle.unfitted.specs.declared.UnfittedFit.{UnfittedFit}
+use Rattle.unfitted.specs.Fits.{unfittedNumber, Denominators, Fitted, Unfitted, UnfittedAnswer}
 
--- tables that agree at the edges have the same lines
-lines-cong : (K : ℕ) (n n′ : ℕ → ℤ) (d d′ : ℕ → ℕ) (m m′ : ℕ → ℤ) → ((v : ℕ) → v < K → n v ≡ n′ v) → ((v : ℕ) → v < K → d v ≡ d′ v) → ((v : ℕ) → v < K → m v ≡ m′ v)
-    → fractionLines K n d m ≡ fractionLines K n′ d′ m′
-unfolding fractionLines
-lines-cong zero n n′ d d′ m m′ f g h = refl
-lines-cong (suc K) n n′ d d′ m m′ f g h =
-    ap₂ _++_ (lines-cong K n n′ d d′ m m′ (λ v l. f v (omega arith)) (λ v l. g v (omega arith)) (λ v l. h v (omega arith)))
-    (ap₂ (λ (x : ℤ) (y : ℕ). fractionLine K x y (m K)) (f K (omega arith)) (g K (omega arith)) ∙ ap (fractionLine K (n′ K) (d′ K)) (h K (omega arith)))
+pub refused-sheet : (s : List ℕ) (x : UnfittedFit) (q : Reason) → x .fit .verdict ≡ Refused q → Unfitted x → refusalOf q ≡ unfittedNumber s → UnfittedAnswer s x
+refused-sheet s x q e u g = record { number = ap numberOf e ∙ g; fitted = λ z. absurd (not-zero q (g ∙ z)); unfitted = λ _. u }
 
--- and so the same text
-text-cong : (N K : ℕ) (n n′ : ℕ → ℤ) (d d′ : ℕ → ℕ) (m m′ : ℕ → ℤ) (R H : ℕ) → ((v : ℕ) → v < K → n v ≡ n′ v) → ((v : ℕ) → v < K → d v ≡ d′ v) → ((v : ℕ) → v < K → m v ≡ m′ v)
-    → resolvedText N K n d m R H ≡ resolvedText N K n′ d′ m′ R H
-unfolding resolvedText
-text-cong N K n n′ d d′ m m′ R H f g h = ap (λ (t : List ℕ). resolvedLine N K ++ (t ++ roundedLine R H)) (lines-cong K n n′ d d′ m m′ f g h)
+-- K denominators with zeros behind them
+module _ (K : ℕ) (f : ℕ → ℕ) (front rest : List ℕ) (few : K ≤ maxEdges) (e : front ≡ table K f) (z : (k : ℕ) → getD rest k 0 ≡ 0) (size : length rest ≡ maxEdges - K) where
+  whole : length front ≡ K
+  whole = ap length e ∙ length-table K f
 
--- an entry of a table at the front of a list
-front-entry : {A : Type 0} (x : A) (K : ℕ) (f : ℕ → A) (front rest : List A) → front ≡ table K f → (v : ℕ) → v < K → getD (front ++ rest) v x ≡ f v
-front-entry x K f front rest e v l =
-    ap (λ (t : List _). getD (t ++ rest) v x) e
-    ∙ List·getD-append (table K f) rest x v (omega (arith, length-table K f))
-    ∙ getD-table K f x v l
+  denominators-kept : Denominators K f (front ++ rest)
+  denominators-kept = record {
+    size = omega (arith, length-append front rest, whole);
+    entries = λ v l. List·getD-append front rest 0 v (omega (arith, whole)) ∙ ap (λ (x : List ℕ). getD x v 0) e ∙ getD-table K f 0 v l;
+    rest = λ v l. let at : length front + (v - K) ≡ v = omega (arith, whole) in
+        ap (λ (k : ℕ). getD (front ++ rest) k 0) (sym at) ∙ getD-append-add front rest (v - K) 0 ∙ z (v - K);
+  }
 
--- a part of a list has as many entries as lie between its ends
-part-length : {A : Type 0} (l : List A) (a e : ℕ) → a ≤ e → e ≤ length l → e - a ≡ length (take (e - a) (drop a l))
-part-length l a e h f = sym (length-take-le (e - a) (drop a l) (simp length-drop (omega arith)))
+-- a table of one value: its front has room for each edge, and what is behind the front has that value
+module _ {A : Type 0} (d : A) (zeros : List A) (blank : zeros ≡ table maxEdges (λ _. d)) (k : ℕ) where
+  size : length zeros ≡ maxEdges
+  size = ap length blank ∙ length-table maxEdges (λ _. d)
 
--- ---- the fit of what the sheet holds, each table at the front of a list
-module _ (s : List ℕ) (b : bareNumber s ≡ 0) {nb na mb ma : List ℤ} {eb ea : List ℕ} {x : DirectFit}
-    (a : DirectAnswer (strainsOf s) (distancesOf s) (parentsOf s) nb na eb ea mb ma x)
-    (k : ℕ) (p : length nb ≡ k) (q : length eb ≡ k) (r : length mb ≡ k) (cut : length (parentsOf s) ≤ 125 → k ≡ length (parentsOf s))
-    (nr mr : List ℤ) (er : List ℕ) where
-  asked : directNumber (strainsOf s) (distancesOf s) (parentsOf s) (length nb) (length eb) (length mb) ≡ unfittedNumber s
-  asked = buffers-fit (strainsOf s) (distancesOf s) (parentsOf s) (length nb) (length eb) (length mb) k p q r cut ∙ past-bare s b
+  rest-blank : (i : ℕ) → getD (drop k zeros) i d ≡ d
+  rest-blank i = getD-drop k zeros i d ∙ ap (λ (l : List A). getD l (k + i) d) blank ∙ getD-table-const maxEdges d (k + i)
 
-  module _ (z : unfittedNumber s ≡ 0) where
-    fit : Resolves (strainsOf s) (distancesOf s) (parentsOf s) na ea ma x
-    fit = a .fit (asked ∙ z)
+  rest-size : length (drop k zeros) ≡ maxEdges - k
+  rest-size = length-drop k zeros ∙ ap (λ (n : ℕ). n - k) size
 
-    edges : k ≡ length (parentsOf s)
-    edges = cut (few-edges (strainsOf s) (distancesOf s) (parentsOf s) (held-zero s z))
+  module _ (few : k ≤ maxEdges) where
+    pub front-there : k ≤ length zeros
+    front-there = omega (arith, size)
 
-    text-is : resolvedText (strainsOf s) k (entryOf (na ++ nr)) (λ v. getD (ea ++ er) v 0) (entryOf (ma ++ mr)) (x .r) (x .h) ≡ fitOfUnfitted s
-    text-is =
-        ap (λ (K : ℕ). resolvedText (strainsOf s) K (entryOf (na ++ nr)) (λ v. getD (ea ++ er) v 0) (entryOf (ma ++ mr)) (x .r) (x .h)) edges
-        ∙ text-cong (strainsOf s) (length (parentsOf s)) _ (topOf (strainsOf s) (distancesOf s) (parentsOf s)) _ (bottomOf (strainsOf s) (distancesOf s) (parentsOf s)) _ (thousandthOf (strainsOf s) (distancesOf s) (parentsOf s)) (x .r) (x .h)
-        (front-entry (pos 0) (length (parentsOf s)) _ na nr (fit .tops)) (front-entry 0 (length (parentsOf s)) _ ea er (fit .bottoms)) (front-entry (pos 0) (length (parentsOf s)) _ ma mr (fit .rounded))
-        ∙ ap₂ (λ (R H : ℕ). resolvedText (strainsOf s) (length (parentsOf s)) (topOf (strainsOf s) (distancesOf s) (parentsOf s)) (bottomOf (strainsOf s) (distancesOf s) (parentsOf s)) (thousandthOf (strainsOf s) (distancesOf s) (parentsOf s)) R H)
-        (ap natAbs (fit .r)) (ap natAbs (fit .h))
+    pub front-size : k ≡ length (take k zeros)
+    front-size = sym (length-take-le k zeros front-there)
 
-  pub shown-is : fitShown x (strainsOf s) k (na ++ nr) (ea ++ er) (ma ++ mr) ≡ unfittedText s
-  shown-is = text-by-number (unfittedNumber s) (fitOfUnfitted s) (x .verdict) _ (a .number ∙ asked) text-is
+module _ (s : List ℕ) (r : Sheet) (a : SheetAnswer 2 s r) (e : r .verdict ≡ Accepted) where
+  pub parts : Parts s r
+  parts = read-parts 2 s r (omega arith) a e
 
--- the same of what was read from the sheet, as it was lent to the fit
-pub shows-sheet : (s : List ℕ) (h : Bare) → bareNumber s ≡ 0 → BareHeld s h
-    → {nb na mb ma : List ℤ} {eb ea : List ℕ} (x : DirectFit)
-    → DirectAnswer (h .strains) (take (h .pairs) (h .distances)) (take (h .end - h .parents) (drop (h .parents) s)) nb na eb ea mb ma x
-    → (k : ℕ) → length nb ≡ k → length eb ≡ k → length mb ≡ k → (h .end - h .parents ≤ 125 → k ≡ h .end - h .parents)
-    → (nr mr : List ℤ) (er : List ℕ) (before after : List ℕ) (next : ℕ)
-    → Wrote before after 0 (fitShown x (h .strains) k (na ++ nr) (ea ++ er) (ma ++ mr)) next → Wrote before after 0 (unfittedText s) next
-shows-sheet s h b w {na = na} {ma = ma} {ea = ea} x a k p q r cut nr mr er before after next t =
-    let many : h .end - h .parents ≡ length (parentsOf s) = part-length s (h .parents) (h .end) (w .starts) (w .ends) ∙ ap length (w .parents) in
-    let held = rw (w .strains, w .distances, w .parents) at a in
-    let text = shown-is s b held k p q r (λ l. cut (omega (arith, many)) ∙ many) nr mr er in
-    subst (λ (u : List ℕ). Wrote before after 0 u next) (ap (λ (N : ℕ). fitShown x N k (na ++ nr) (ea ++ er) (ma ++ mr)) (w .strains) ∙ text) t
+  few : length (parentsOf s) ≤ maxEdges
+  few = omega (arith, parts .posted .tree .most, parts .posted .tree .few)
 
--- the print of a sheet without lengths fits a page
-pub text-fits : (s : List ℕ) → length (unfittedText s) ≤ pageSize
-text-fits s = fits-page (unfittedNumber s) (fitOfUnfitted s) (λ z. resolved-text-length _ (length (parentsOf s)) _ _ _ _ _ (few-edges (strainsOf s) (distancesOf s) (parentsOf s) (held-zero s z)))
+  pub few-edges : r .end - r .parents ≤ maxEdges
+  few-edges = omega (arith, few, parts .count)
 
--- ---- the whole answer
-pub whole-page : (s before after : List ℕ) (next : ℕ) → pageSize ≤ length before → Wrote before after 0 (unfittedText s) next → UnfittedShown s before after next
-whole-page s before after next h w = record {
-  written = λ _. w;
-  short = λ l. absurd (omega (arith, h, l));
-  within = stays-within (unfittedText s) before after next (text-fits s) h w;
-}
+  pub allowed : Allowed (r .strains) (length (take (r .end - r .parents) (drop (r .parents) s))) (parentOf (take (r .end - r .parents) (drop (r .parents) s)))
+  allowed = to-parts parts (λ N ds ps. Allowed N (length ps) (parentOf ps)) (parts .posted .tree)
 
--- a refusal of what the sheet holds is the print's
-pub shows-refused : (s : List ℕ) (v : Verdict) (r : Reason) (number : ℕ) → v ≡ Refused r → numberOf v ≡ bareNumber s → number ≡ refusalOf r
-    → (before after : List ℕ) (next : ℕ) → Wrote before after 0 (refusedLine number) next → Wrote before after 0 (unfittedText s) next
-shows-refused s v r number e f g before after next w =
-    let told : refusalOf r ≡ unfittedNumber s = refused-row r v (bareNumber s) (heldResolved s) e f ∙ bare-then s in
-    subst (λ (t : List ℕ). Wrote before after 0 t next)
-    (ap refusedLine g ∙ text-by-number (unfittedNumber s) (fitOfUnfitted s) (Refused r) (fitOfUnfitted s) told (λ _. refl)) w
+  pub posted : Posted (r .strains) (take (r .pairs) (r .distances)) (take (r .end - r .parents) (drop (r .parents) s))
+  posted = to-parts parts Posted (parts .posted)
+
+  pub parents-size : r .end - r .parents ≡ length (take (r .end - r .parents) (drop (r .parents) s))
+  parents-size = parts .count ∙ sym (ap length (parts .parents))
+
+  module _ (v : Verdict) (h : numberOf v ≡ test 25 (unresolved (r .strains) (take (r .end - r .parents) (drop (r .parents) s)))) where
+    pub degrees-asked : numberOf v ≡ unfittedNumber s
+    degrees-asked =
+        of-parts parts (λ N ds ps. numberOf v ≡ test 25 (unresolved N ps)) h
+        ∙ sym (two-asked s (accepted 2 s r a e) (test 25 (unresolved (strainsOf s) (parentsOf s))))
+
+    module _ (f : v ≡ Accepted) where
+      pub resolved : unresolved (r .strains) (take (r .end - r .parents) (drop (r .parents) s)) ≡ false
+      resolved = test-zero 24 (unresolved (r .strains) (take (r .end - r .parents) (drop (r .parents) s))) (sym h ∙ ap numberOf f)
+
+      zero : unfittedNumber s ≡ 0
+      zero = sym degrees-asked ∙ ap numberOf f
+
+      module _ (blank blank′ : List ℤ) (none : List ℕ) (b : blank ≡ table maxEdges (λ _. pos 0)) (c : none ≡ table maxEdges (λ _. 0)) (d : blank′ ≡ table maxEdges (λ _. pos 0))
+          (ns ms : List ℤ) (es : List ℕ) (x : DirectFit) (g : x .verdict ≡ Accepted)
+          (p : Resolves (r .strains) (take (r .pairs) (r .distances)) (take (r .end - r .parents) (drop (r .parents) s)) ns es ms x) where
+        fit : Resolves (strainsOf s) (distancesOf s) (parentsOf s) ns es ms x
+        fit = of-parts parts (λ N ds ps. Resolves N ds ps ns es ms x) p
+
+        behind : {A : Type 0} (y : A) (l : List A) → l ≡ table maxEdges (λ _. y) → length (drop (r .end - r .parents) l) ≡ maxEdges - length (parentsOf s)
+        behind y l h = rest-size y l h (r .end - r .parents) ∙ ap (λ (k : ℕ). maxEdges - k) (parts .count)
+
+        kept : (f : ℕ → ℤ) (front l : List ℤ) → front ≡ table (length (parentsOf s)) f → l ≡ table maxEdges (λ _. pos 0)
+            → EdgeTable (length (parentsOf s)) f (front ++ drop (r .end - r .parents) l)
+        kept f front l h b = front-kept (length (parentsOf s)) f front (drop (r .end - r .parents) l) few h (rest-blank (pos 0) l b (r .end - r .parents)) (behind (pos 0) l b)
+
+        pub fitted-sheet : UnfittedAnswer s (record {
+          fit = x;
+          strains = r .strains;
+          edges = r .end - r .parents;
+          tops = ns ++ drop (r .end - r .parents) blank;
+          bottoms = es ++ drop (r .end - r .parents) none;
+          rounded = ms ++ drop (r .end - r .parents) blank′;
+        })
+        fitted-sheet = record {
+          number = ap numberOf g ∙ sym zero;
+          fitted = λ _. record {
+            strains = parts .strains;
+            edges = parts .count;
+            few = few;
+            resolves = record { tops = refl; bottoms = refl; rounded = refl; r = fit .r; h = fit .h; direct = fit .direct };
+            tops = kept (topOf (strainsOf s) (distancesOf s) (parentsOf s)) ns blank (fit .tops) b;
+            bottoms = denominators-kept (length (parentsOf s)) (bottomOf (strainsOf s) (distancesOf s) (parentsOf s)) es (drop (r .end - r .parents) none) few (fit .bottoms) (rest-blank 0 none c (r .end - r .parents)) (behind 0 none c);
+            rounded = kept (thousandthOf (strainsOf s) (distancesOf s) (parentsOf s)) ms blank′ (fit .rounded) d;
+          };
+          unfitted = λ n. absurd (n zero);
+        }

@@ -1,3 +1,2 @@
-pub mod Numbers
 pub mod Fits
-pub mod SheetA
+pub mod Settled

@@ -18,7 +18,7 @@ use Rattle.lengths.proofs.some_numerator_out.Statement.{statement}
 use Rattle.lengths.proofs.some_numerator_out.Tie as tie
 use Rattle.lengths.proofs.some_numerator_out.Reads as reads
 use Rattle.lengths.proofs.some_numerator_out.Lts as lts
-use Rattle.exact.proofs.magnitude.Reads as magnitude-reads
+use Rattle.arithmetic.proofs.magnitude.Reads as magnitude-reads
 
 abbrev Inv-loop : tie.InvT-loop
 Inv-loop numerators v₀ v =

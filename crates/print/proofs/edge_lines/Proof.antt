@@ -1,58 +1,62 @@
--- After v turns the lines of the first v edges stand there; each took at most 70 bytes, so there is room for the next.
+-- After v turns the lines of the first v edges stand there; each took at most `widest` bytes, so there is room for the next.
 use borrow.Author.Needs.{needs}
 use mathlib.Core.Path.{_≡_, refl}
-use mathlib.Core.List.{List}
+use mathlib.Core.List.{List, [], _∷_}
 use Prim.Native.Nat.{ℕ, _+_, _*_, _-_, _<_, _≤_}
-use native.Mathlib.Numerals.{add-one}
 use native.Mathlib.Omega.{arith}
 use lib.IntN.{ℤ, pos}
-use lib.ListN.{length, getD}
+use lib.ListN.{length}
 use mir.Facts.{toZ-ofZ}
 use mir.Syntax.{w64}
+use Rattle.exact.specs.Table.{entryOf}
+use Rattle.exact.proofs.Sign.{fits-abs, back-pos}
 use Rattle.text.specs.Text.{Wrote}
-use Rattle.text.proofs.Writing.{wrote-none, wrote-then}
-use Rattle.print.specs.Lines.{edgeLine, edgeLines}
-use Rattle.print.proofs.Sizes.{edges-length}
+use Rattle.lines.specs.Lines.{edgeLines}
+use Rattle.lines.proofs.Pieces.{edges-none}
+use Rattle.lines.proofs.Sizes.{edges-end, edges-more}
 use Rattle.print.proofs.edge_lines.Statement.{statement}
 use Rattle.print.proofs.edge_lines.Tie as tie
 
--- no edge, and one more, over plain numbers and lists
-module _ (b : List ℕ) (at : ℕ) (n m : ℕ → ℤ) where
-  none : Wrote b b at (edgeLines 0 n m) at
-  unfolding edgeLines
-  none = wrote-none b at
-
-  turn : (k v : ℕ) → v < k → at + 70 * k ≤ length b → {c d : List ℕ} {i j : ℕ} → Wrote b c at (edgeLines v n m) i
-      → Wrote c d i (edgeLine v (n v) (m v)) j → Wrote b d at (edgeLines (v + 1) n m) j
-  unfolding edgeLines
-  turn k v h room p q = rw (add-one v) (wrote-then (omega (arith, edges-length v n m)) p q)
+-- what a line says of an edge
+abbrev row : List ℤ → List ℤ → ℕ → List ℤ
+row numerators rounded v = entryOf numerators v ∷ entryOf rounded v ∷ []
 
 abbrev Inv-loop : tie.InvT-loop
-Inv-loop text₀ at k numerators rounded next₀ v₀ text next v =
-    (v ≤ k) × (length text ≡ length text₀)
-    × Wrote text₀ text at (edgeLines v (λ i. getD numerators i (pos 0)) (λ i. getD rounded i (pos 0))) next
+Inv-loop text₀ at k numerators rounded next₀ v₀ t9 text next v =
+    (v ≤ k) × (length text ≡ length text₀) × Wrote text₀ text at (edgeLines v (row numerators rounded)) next
 
 abbrev μ-loop : tie.MeasureT-loop
-μ-loop text₀ at k numerators rounded next₀ v₀ text next v = k - v
+μ-loop text₀ at k numerators rounded next₀ v₀ t9 text next v = k - v
 
 loop-holds : tie.Need-loop-holds Inv-loop μ-loop
-loop-holds c = (search needs, refl, none (c .before .args .text .now) (c .before .args .at) _ _)
+loop-holds c = (search needs, refl, edges-none _ _ _)
 
-mul-edge-line : tie.Need-mul-edge-line Inv-loop μ-loop
-mul-edge-line c = search needs
+cast-t11 : tie.Need-cast-t11 Inv-loop μ-loop
+cast-t11 c = fits-abs _ (omega arith)
 
-element-copy-out-edge-line : tie.Need-element-copy-out-edge-line Inv-loop μ-loop
-element-copy-out-edge-line c = search needs
+mul-t12 : tie.Need-mul-t12 Inv-loop μ-loop
+mul-t12 c = search needs
 
-mul-edge-line-2 : tie.Need-mul-edge-line-2 Inv-loop μ-loop
-mul-edge-line-2 c = search needs
+element-copy-out-t15 : tie.Need-element-copy-out-t15 Inv-loop μ-loop
+element-copy-out-t15 c = search needs
 
-element-copy-out-edge-line-2 : tie.Need-element-copy-out-edge-line-2 Inv-loop μ-loop
-element-copy-out-edge-line-2 c = search needs
+mul-t16 : tie.Need-mul-t16 Inv-loop μ-loop
+mul-t16 c = search needs
 
-edge-line-requires : tie.Need-edge-line-requires Inv-loop μ-loop
-edge-line-requires c κs =
-    omega (arith, edges-length (c .before .before .before .before .loop .v) (λ i. getD (c .before .before .before .before .before .before .args .numerators .now) i (pos 0)) (λ i. getD (c .before .before .before .before .before .before .args .rounded .now) i (pos 0)))
+element-copy-out-t19 : tie.Need-element-copy-out-t19 Inv-loop μ-loop
+element-copy-out-t19 c = search needs
+
+slice-aggregate-line : tie.Need-slice-aggregate-line Inv-loop μ-loop
+slice-aggregate-line c = search needs
+
+slice-aggregate-line-2 : tie.Need-slice-aggregate-line-2 Inv-loop μ-loop
+slice-aggregate-line-2 c = search needs
+
+line-requires : tie.Need-line-requires Inv-loop μ-loop
+line-requires c κs = let s = c .before .before .before .before .before .before in
+    let l = s .loop in
+    let a = s .before .before .args in
+    omega (arith, edges-end (a .text .now) (l .text) (a .at) (l .next) (l .v) (row (a .numerators .now) (a .rounded .now)) (λ u. omega arith) (l .inv .2))
 
 add-v : tie.Need-add-v Inv-loop μ-loop
 add-v c = search needs
@@ -62,15 +66,15 @@ loop-less c = search needs
 
 loop-again : tie.Need-loop-again Inv-loop μ-loop
 loop-again c =
-    let a = c .before .before .before .before .before .before .before .before .before .args in
-    let l = c .before .before .before .before .before .before .before .loop in
-    let n = toZ-ofZ {w = w64} {z = getD (a .numerators .now) (l .v) (pos 0)} (record { sfits = c .before .before .before .before .edge-line-arg2 .given }) in
-    let m = toZ-ofZ {w = w64} {z = getD (a .rounded .now) (l .v) (pos 0)} (record { sfits = c .before .before .before .edge-line-arg3 .given }) in
-    let told = simp (n, m) at (c .before .before .edge-line .ensures) in (
+    let s = c .before .before .before .before .before .before .before .before .before in
+    let l = s .loop in
+    let a = s .before .before .args in
+    let e = back-pos (l .v) (omega arith) in
+    let n = toZ-ofZ {w = w64} {z = entryOf (a .numerators .now) (l .v)} (record { sfits = c .before .before .before .before .before .before .before .t15 .given }) in
+    let m = toZ-ofZ {w = w64} {z = entryOf (a .rounded .now) (l .v)} (record { sfits = c .before .before .before .before .before .before .t19 .given }) in (
       omega arith,
       search needs,
-      turn (a .text .now) (a .at) (λ i. getD (a .numerators .now) i (pos 0)) (λ i. getD (a .rounded .now) i (pos 0)) (a .k) (l .v)
-          (omega arith) (omega arith) (l .inv .2) told,
+      edges-more (a .text .now) (a .at) (row (a .numerators .now) (a .rounded .now)) (λ u. omega arith) (a .k) (l .v) (omega arith) (omega arith) (l .inv .2) (simp (e, n, m) at (c .before .before .line .ensures)),
     )
 
 same-length : tie.Need-same-length Inv-loop μ-loop
@@ -89,11 +93,14 @@ edge-lines-spec =
     Inv-loop
     μ-loop
     loop-holds
-    mul-edge-line
-    element-copy-out-edge-line
-    mul-edge-line-2
-    element-copy-out-edge-line-2
-    edge-line-requires
+    cast-t11
+    mul-t12
+    element-copy-out-t15
+    mul-t16
+    element-copy-out-t19
+    slice-aggregate-line
+    slice-aggregate-line-2
+    line-requires
     add-v
     loop-less
     loop-again

@@ -1,83 +1,90 @@
--- After v turns the lines of the first v edges stand there; each took at most 91 bytes, so there is room for the next.
+-- After v turns the lines of the first v edges stand there; each took at most `widest` bytes, so there is room for the next.
 use borrow.Author.Needs.{needs}
 use mathlib.Core.Path.{_≡_, refl}
-use mathlib.Core.List.{List}
-use Prim.Native.Nat.{ℕ, _+_, _*_, _-_, _<_, _≤_}
-use native.Mathlib.Numerals.{add-one}
+use mathlib.Core.List.{List, [], _∷_}
+use Prim.Native.Nat.{ℕ, _+_, _*_, _-_, _^_, _<_, _≤_}
 use native.Mathlib.Omega.{arith}
 use lib.IntN.{ℤ, pos}
 use lib.ListN.{length, getD}
 use mir.Facts.{toZ-ofZ}
 use mir.Syntax.{w64}
+use Rattle.exact.specs.Table.{entryOf}
+use Rattle.exact.proofs.Sign.{fits-abs, back-pos}
 use Rattle.text.specs.Text.{Wrote}
-use Rattle.text.proofs.Writing.{wrote-none, wrote-then}
-use Rattle.print.specs.Lines.{fractionLine, fractionLines}
-use Rattle.print.proofs.Sizes.{fractions-length}
+use Rattle.lines.specs.Lines.{edgeLines}
+use Rattle.lines.proofs.Pieces.{edges-none}
+use Rattle.lines.proofs.Sizes.{edges-end, edges-more}
 use Rattle.print.proofs.fraction_lines.Statement.{statement}
 use Rattle.print.proofs.fraction_lines.Tie as tie
 
--- no edge, and one more, over plain numbers and lists
-module _ (b : List ℕ) (at : ℕ) (n : ℕ → ℤ) (d : ℕ → ℕ) (m : ℕ → ℤ) where
-  none : Wrote b b at (fractionLines 0 n d m) at
-  unfolding fractionLines
-  none = wrote-none b at
-
-  turn : (k v : ℕ) → v < k → at + 91 * k ≤ length b → {c e : List ℕ} {i j : ℕ} → Wrote b c at (fractionLines v n d m) i
-      → Wrote c e i (fractionLine v (n v) (d v) (m v)) j → Wrote b e at (fractionLines (v + 1) n d m) j
-  unfolding fractionLines
-  turn k v h room p q = rw (add-one v) (wrote-then (omega (arith, fractions-length v n d m)) p q)
+-- what a line says of an edge
+abbrev row : List ℤ → List ℕ → List ℤ → ℕ → List ℤ
+row tops bottoms rounded v = entryOf tops v ∷ pos (getD bottoms v 0) ∷ entryOf rounded v ∷ []
 
 abbrev Inv-loop : tie.InvT-loop
-Inv-loop text₀ at k tops bottoms rounded next₀ edge₀ text next edge =
-    (edge ≤ k) × (length text ≡ length text₀)
-    × Wrote text₀ text at (fractionLines edge (λ i. getD tops i (pos 0)) (λ i. getD bottoms i 0) (λ i. getD rounded i (pos 0))) next
+Inv-loop text₀ at k tops bottoms rounded next₀ v₀ t10 text next v =
+    (v ≤ k) × (length text ≡ length text₀) × Wrote text₀ text at (edgeLines v (row tops bottoms rounded)) next
 
 abbrev μ-loop : tie.MeasureT-loop
-μ-loop text₀ at k tops bottoms rounded next₀ edge₀ text next edge = k - edge
+μ-loop text₀ at k tops bottoms rounded next₀ v₀ t10 text next v = k - v
 
 loop-holds : tie.Need-loop-holds Inv-loop μ-loop
-loop-holds c = (search needs, refl, none (c .before .args .text .now) (c .before .args .at) _ _ _)
+loop-holds c = (search needs, refl, edges-none _ _ _)
 
-mul-fraction-line : tie.Need-mul-fraction-line Inv-loop μ-loop
-mul-fraction-line c = search needs
+cast-t12 : tie.Need-cast-t12 Inv-loop μ-loop
+cast-t12 c = fits-abs _ (omega arith)
 
-element-copy-out-fraction-line : tie.Need-element-copy-out-fraction-line Inv-loop μ-loop
-element-copy-out-fraction-line c = search needs
+mul-t13 : tie.Need-mul-t13 Inv-loop μ-loop
+mul-t13 c = search needs
 
-mul-fraction-line-2 : tie.Need-mul-fraction-line-2 Inv-loop μ-loop
-mul-fraction-line-2 c = search needs
+element-copy-out-t16 : tie.Need-element-copy-out-t16 Inv-loop μ-loop
+element-copy-out-t16 c = search needs
 
-element-copy-out-fraction-line-2 : tie.Need-element-copy-out-fraction-line-2 Inv-loop μ-loop
-element-copy-out-fraction-line-2 c = search needs
+mul-whole : tie.Need-mul-whole Inv-loop μ-loop
+mul-whole c = search needs
 
-mul-fraction-line-3 : tie.Need-mul-fraction-line-3 Inv-loop μ-loop
-mul-fraction-line-3 c = search needs
+element-copy-out-whole : tie.Need-element-copy-out-whole Inv-loop μ-loop
+element-copy-out-whole c = search needs
 
-element-copy-out-fraction-line-3 : tie.Need-element-copy-out-fraction-line-3 Inv-loop μ-loop
-element-copy-out-fraction-line-3 c = search needs
+whole-requires : tie.Need-whole-requires Inv-loop μ-loop
+whole-requires c κs = search needs
 
-fraction-line-requires : tie.Need-fraction-line-requires Inv-loop μ-loop
-fraction-line-requires c κs =
-    let a = c .before .before .before .before .before .before .before .args in
-    omega (arith, fractions-length (c .before .before .before .before .before .loop .edge) (λ i. getD (a .tops .now) i (pos 0)) (λ i. getD (a .bottoms .now) i 0) (λ i. getD (a .rounded .now) i (pos 0)))
+mul-t22 : tie.Need-mul-t22 Inv-loop μ-loop
+mul-t22 c = search needs
 
-add-edge : tie.Need-add-edge Inv-loop μ-loop
-add-edge c = search needs
+element-copy-out-t25 : tie.Need-element-copy-out-t25 Inv-loop μ-loop
+element-copy-out-t25 c = search needs
+
+slice-aggregate-line : tie.Need-slice-aggregate-line Inv-loop μ-loop
+slice-aggregate-line c = search needs
+
+slice-aggregate-line-2 : tie.Need-slice-aggregate-line-2 Inv-loop μ-loop
+slice-aggregate-line-2 c = search needs
+
+line-requires : tie.Need-line-requires Inv-loop μ-loop
+line-requires c κs = let s = c .before .before .before .before .before .before .before .before in
+    let l = s .loop in
+    let a = s .before .before .args in
+    omega (arith, edges-end (a .text .now) (l .text) (a .at) (l .next) (l .v) (row (a .tops .now) (a .bottoms .now) (a .rounded .now)) (λ u. omega arith) (l .inv .2))
+
+add-v : tie.Need-add-v Inv-loop μ-loop
+add-v c = search needs
 
 loop-less : tie.Need-loop-less Inv-loop μ-loop
 loop-less c = search needs
 
 loop-again : tie.Need-loop-again Inv-loop μ-loop
 loop-again c =
-    let a = c .before .before .before .before .before .before .before .before .before .before .args in
-    let l = c .before .before .before .before .before .before .before .before .loop in
-    let n = toZ-ofZ {w = w64} {z = getD (a .tops .now) (l .edge) (pos 0)} (record { sfits = c .before .before .before .before .before .fraction-line-arg2 .given }) in
-    let m = toZ-ofZ {w = w64} {z = getD (a .rounded .now) (l .edge) (pos 0)} (record { sfits = c .before .before .before .fraction-line-arg4 .given }) in
-    let told = simp (n, m) at (c .before .before .fraction-line .ensures) in (
+    let s = c .before .before .before .before .before .before .before .before .before .before .before in
+    let l = s .loop in
+    let a = s .before .before .args in
+    let e = back-pos (l .v) (omega arith) in
+    let n = toZ-ofZ {w = w64} {z = entryOf (a .tops .now) (l .v)} (record { sfits = c .before .before .before .before .before .before .before .before .before .t16 .given }) in
+    let d = toZ-ofZ {w = w64} {z = c .before .before .before .before .before .before .before .whole .result} (search needs) in
+    let m = toZ-ofZ {w = w64} {z = entryOf (a .rounded .now) (l .v)} (record { sfits = c .before .before .before .before .before .before .t25 .given }) in (
       omega arith,
       search needs,
-      turn (a .text .now) (a .at) (λ i. getD (a .tops .now) i (pos 0)) (λ i. getD (a .bottoms .now) i 0) (λ i. getD (a .rounded .now) i (pos 0)) (a .k) (l .edge)
-          (omega arith) (omega arith) (l .inv .2) told,
+      edges-more (a .text .now) (a .at) (row (a .tops .now) (a .bottoms .now) (a .rounded .now)) (λ u. omega arith) (a .k) (l .v) (omega arith) (omega arith) (l .inv .2) (simp (e, n, c .before .before .before .before .before .before .before .whole .ensures, m) at (simp d at (c .before .before .line .ensures))),
     )
 
 same-length : tie.Need-same-length Inv-loop μ-loop
@@ -85,7 +92,7 @@ same-length c = search needs
 
 returns : tie.Need-returns Inv-loop μ-loop
 returns c =
-    let v = c .before .loop .edge in
+    let v = c .before .loop .v in
     let e : c .before .before .before .args .k ≡ v = omega arith in
     rw e (c .before .loop .inv .2)
 
@@ -96,14 +103,18 @@ fraction-lines-spec =
     Inv-loop
     μ-loop
     loop-holds
-    mul-fraction-line
-    element-copy-out-fraction-line
-    mul-fraction-line-2
-    element-copy-out-fraction-line-2
-    mul-fraction-line-3
-    element-copy-out-fraction-line-3
-    fraction-line-requires
-    add-edge
+    cast-t12
+    mul-t13
+    element-copy-out-t16
+    mul-whole
+    element-copy-out-whole
+    whole-requires
+    mul-t22
+    element-copy-out-t25
+    slice-aggregate-line
+    slice-aggregate-line-2
+    line-requires
+    add-v
     loop-less
     loop-again
     same-length

@@ -1,0 +1,3 @@
+pub mod HandingUp
+pub mod Turning
+pub mod Gathering

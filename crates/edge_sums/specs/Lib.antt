@@ -1,0 +1,3 @@
+pub mod Rooted
+pub mod Meets
+pub mod Sums

@@ -1,0 +1,15 @@
+-- The definitions give every starred figure, and every bound holds where it is tight: one claim, computed.
+use mathlib.Core.Path.{_≡_, refl}
+use mathlib.Core.Bool.{true}
+use Rattle.exact.specs.Sum.{sum, pairs, ind}
+use Rattle.exact.specs.Table.{tableFrom}
+use Rattle.exact.specs.LeastSquares.{path, hops}
+use Rattle.exact.specs.Nearest.{nearest}
+use Rattle.verdict.specs.Table.{some, count}
+use Rattle.matrix.specs.Place.{rowStart, place}
+use Rattle.trees.specs.Chain.{lift, below, parts}
+use Rattle.fit.specs.Figures.{benchHolds}
+
+pub bench : benchHolds ≡ true
+unfolding sum pairs ind tableFrom path hops nearest some count rowStart place lift below parts
+bench = refl

@@ -1,0 +1,143 @@
+-- Demand 3, and the ranges of F and R that it brings.
+-- `f-low`, `f-high`: F is between 0 and 5,040,000,000,000,000,000, over any incidence whose equations hold.
+-- `close-high`: R of any rounding that is close to a fit. `r-low`, `r-high`: R, likewise. `r-sweep`, `r-term`: its running sums, and the square of one pair.
+-- `fit-minimum`, `fit-rounding`: demand 3 over any such incidence.
+-- `least`: what stands is a minimum, and its rounding is close to it. `r-range`: R of what stands.
+use mathlib.Core.Path.{refl, sym, subst, subst₂}
+use mathlib.Core.Bool.{Bool}
+use mathlib.Core.List.{List, [], _∷_}
+use mathlib.Core.Logic.{inr}
+use Prim.Native.Nat.{ℕ, _*_, _≤_, _<_}
+use native.Mathlib.Nat.{le-refl}
+use native.Mathlib.Omega.{arith}
+use lib.IntN.{ℤ, pos, _+ℤ_, _*ℤ_, natAbs, *ℤ-zero}
+use lib.ListN.{length}
+use Rattle.exact.specs.Order.{_≤ᶻ_, _<ᶻ_}
+use Rattle.exact.specs.Sum.{pairs, sweep}
+use Rattle.exact.specs.LeastSquares.{sq, path, hops, remainder, Equations, sumF, sumX, sumR, sumH, Near, Minimum, Rounding, Any}
+use Rattle.exact.specs.Nearest.{nearest}
+use Rattle.exact.proofs.Quote.{by-ring, quote}
+use Rattle.exact.proofs.Order.{nn+, nn*, nn-pos, nn-sq, nn-sub, le-by, pos-≤, is-<, *-cancel, ≤-trans}
+use Rattle.exact.proofs.Sum.{pairs-sums, S-sq}
+use Rattle.exact.proofs.Sign.{natAbs-sub, within→abs, abs→within}
+use Rattle.exact.proofs.LeastSquares.{minimum, rounding}
+use Rattle.exact.proofs.Rounding.{nearest-near}
+use Rattle.exact.proofs.Sweep.{sweep-end, sweep-within, sweep-nn, sweep-le, term-le}
+use Rattle.matrix.specs.Place.{distance}
+use Rattle.exact.specs.Table.{entryOf}
+use Rattle.fit.specs.Quantities.{partsOf, rOf}
+use Rattle.fit.specs.Stands.{Stands, Least}
+use Rattle.fit.proofs.Ranges.{Bounds, bounds, mul-abs, path-abs, hops-sweep}
+
+-- ---- over plain numbers
+-- a number from 0 to b
+between : (b : ℕ) (z : ℤ) → pos 0 ≤ᶻ z → z ≤ᶻ pos b → natAbs z ≤ b
+between b z low high = within→abs b z (record { low = ≤-trans (le-by (nn-pos b) (by-ring (pos b ∷ []) (search quote depth 20) tt)) low; high = high })
+
+-- F ≤ D·X, from the comparison with lengths of 0
+cancel-D : (D F X : ℤ) → pos 0 <ᶻ D → pos 1 *ℤ pos 1 *ℤ D *ℤ F ≤ᶻ D *ℤ D *ℤ X → F ≤ᶻ D *ℤ X
+cancel-D D F X h k = *-cancel h (le-by (nn-sub k) (by-ring (D ∷ F ∷ X ∷ []) (search quote depth 20) tt))
+
+-- R ≤ 1,000,000·X + H/4
+cancel-4 : (R X H : ℤ) → pos 4 *ℤ (pos 1 *ℤ pos 1) *ℤ R ≤ᶻ pos 4000000 *ℤ X +ℤ pos 1 *ℤ pos 1 *ℤ H
+    → X ≤ᶻ pos 5040000000000 → H ≤ᶻ pos 31500000 → R ≤ᶻ pos 5040000000007875000
+cancel-4 R X H h x k = *-cancel {c = pos 4} (record { lt = tt })
+    (le-by (nn+ (nn-sub h) (nn+ (nn* (nn-pos 4000000) (nn-sub x)) (nn-sub k))) (by-ring (R ∷ X ∷ H ∷ []) (search quote depth 20) tt))
+
+-- a sum over at most 2,016 pairs
+pairs-abs : (N b : ℕ) (f : ℕ × ℕ → ℤ) → N ≤ 64 → ((p : ℕ × ℕ) → natAbs (f p) ≤ b) → natAbs (pairs N f) ≤ 2016 * b
+pairs-abs N b f few h = subst (λ y. natAbs y ≤ 2016 * b) (sweep-end f N)
+    (sweep-within N b f few (λ p _ _. h p) N 0 (le-refl N) (omega arith) (inr refl))
+
+-- ---- R of a rounding that is close to a fit, over any incidence of few edges and distances in range
+module _ (K : ℕ) (d : ℕ × ℕ → ℤ) (few : K ≤ 125) (near : (p : ℕ × ℕ) → natAbs (d p) ≤ 50000) (parts : ℕ → ℕ × ℕ → Bool) (N : ℕ) (small : N ≤ 64) where
+  -- the sum of d², as X of lengths that are all 0: at most 2016 * 50000²
+  zero-X : natAbs (sumX (pairs N) K parts d (pos 1) (λ _. pos 0)) ≤ 5040000000000
+  zero-X = pairs-abs N 2500000000 (λ p. sq (remainder K parts d (pos 1) (λ _. pos 0) p)) small
+      (λ p. mul-abs (remainder K parts d (pos 1) (λ _. pos 0) p) (remainder K parts d (pos 1) (λ _. pos 0) p) 50000 50000 (one p) (one p))
+    where
+      one : (p : ℕ × ℕ) → natAbs (remainder K parts d (pos 1) (λ _. pos 0) p) ≤ 50000
+      one p = omega (
+        arith,
+        natAbs-sub (pos 1 *ℤ d p) (path K parts (λ _. pos 0) p),
+        mul-abs (pos 1) (d p) 1 50000 (omega arith) (near p),
+        path-abs K parts (λ _. pos 0) 0 few (λ v _. omega arith) p,
+      )
+
+  H-high : sumH (pairs N) K parts ≤ᶻ pos 31500000
+  H-high = abs→within 31500000 (sumH (pairs N) K parts) (subst (λ y. natAbs y ≤ 31500000) (sweep-end (λ p. sq (hops K parts p)) N)
+      (hops-sweep K parts few N small N 0 (le-refl N) (omega arith) (inr refl))) .high
+
+  pub close-high : (D : ℤ) (n m : ℕ → ℤ) → Rounding (pairs N) K parts d D n m Any → sumR (pairs N) K parts d m ≤ᶻ pos 5040000000007875000
+  close-high D n m close = cancel-4 (sumR (pairs N) K parts d m) X (sumH (pairs N) K parts)
+      (close .close (pos 1) (λ _. pos 0) record {}) (abs→within 5040000000000 X zero-X .high) H-high
+    where
+      X : ℤ
+      X = sumX (pairs N) K parts d (pos 1) (λ _. pos 0)
+
+-- ---- over any incidence
+module _ {K : ℕ} {d : ℕ × ℕ → ℤ} {D : ℕ} {n : ℕ → ℤ} (w : Bounds K d D n) (parts : ℕ → ℕ × ℕ → Bool) (N : ℕ) (small : N ≤ 64)
+    (fit : Equations (pairs N) K parts d (pos D) n) where
+  some-D : pos 0 <ᶻ pos D
+  some-D = is-< (pos-≤ (w .one))
+
+  near : Near K (pos D) n (λ v. nearest D (n v))
+  near v _ = nearest-near D (n v) (w .one)
+
+  pub fit-minimum : Minimum (pairs N) K parts d (pos D) n Any
+  fit-minimum = minimum (pairs-sums N) K parts d (pos D) n fit
+
+  pub fit-rounding : Rounding (pairs N) K parts d (pos D) n (λ v. nearest D (n v)) Any
+  fit-rounding = rounding (pairs-sums N) K parts d (pos D) n fit (λ v. nearest D (n v)) some-D near
+
+  -- D·F is a sum of squares
+  pub f-low : pos 0 ≤ᶻ sumF (pairs N) K parts d (pos D) n
+  f-low = *-cancel some-D (subst₂ _≤ᶻ_ (sym (*ℤ-zero (pos D))) (sym (fit-minimum .squares)) (S-sq (pairs-sums N) (remainder K parts d (pos D) n)))
+
+  pub f-high : sumF (pairs N) K parts d (pos D) n ≤ᶻ pos 5040000000000000000
+  f-high = ≤-trans (cancel-D (pos D) F X some-D (fit-minimum .least (pos 1) (λ _. pos 0) record {}))
+      (abs→within 5040000000000000000 (pos D *ℤ X) (mul-abs (pos D) X 1000000 5040000000000 (w .most) (zero-X K d (w .few) (w .distances) parts N small)) .high)
+    where
+      F : ℤ
+      F = sumF (pairs N) K parts d (pos D) n
+
+      X : ℤ
+      X = sumX (pairs N) K parts d (pos 1) (λ _. pos 0)
+
+  -- a term of R
+  abbrev square : ℕ × ℕ → ℤ
+  square p = sq (remainder K parts d (pos 1000) (λ v. nearest D (n v)) p)
+
+  square-low : (p : ℕ × ℕ) → pos 0 ≤ᶻ square p
+  square-low p = nn-sq (remainder K parts d (pos 1000) (λ v. nearest D (n v)) p)
+
+  pub r-low : pos 0 ≤ᶻ sumR (pairs N) K parts d (λ v. nearest D (n v))
+  r-low = S-sq (pairs-sums N) (remainder K parts d (pos 1000) (λ v. nearest D (n v)))
+
+  pub r-high : sumR (pairs N) K parts d (λ v. nearest D (n v)) ≤ᶻ pos 5040000000007875000
+  r-high = close-high K d (w .few) (w .distances) parts N small (pos D) n (λ v. nearest D (n v)) fit-rounding
+
+  pub r-sweep : (j i : ℕ) → j < N → i ≤ j
+      → natAbs (sweep (λ p. sq (remainder K parts d (pos 1000) (λ v. nearest D (n v)) p)) j i) ≤ 5040000000007875000
+  r-sweep j i l k = between 5040000000007875000 (sweep square j i) (sweep-nn N square (λ p _ _. square-low p) j i l k)
+      (≤-trans (sweep-le N square (λ p _ _. square-low p) j i l k) r-high)
+
+  pub r-term : (i j : ℕ) → i < j → j < N → natAbs (sq (remainder K parts d (pos 1000) (λ v. nearest D (n v)) (i, j))) ≤ 5040000000007875000
+  r-term i j k l = between 5040000000007875000 (square (i, j)) (square-low (i, j))
+      (≤-trans (term-le N square (λ p _ _. square-low p) i j k l) r-high)
+
+-- ---- what stands
+module _ (N : ℕ) (ds ps : List ℕ) (D : ℕ) (ns : List ℤ) (s : Stands N ds ps D ns) where
+  limits : Bounds (length ps) (distance N ds) D (entryOf ns)
+  limits = bounds (s .matrix) (s .lengths)
+
+  pub least : Least N ds ps D ns
+  least = record {
+    minimum = fit-minimum limits (partsOf ps) N (s .matrix .few) (s .equations);
+    rounding = fit-rounding limits (partsOf ps) N (s .matrix .few) (s .equations);
+    f-low = f-low limits (partsOf ps) N (s .matrix .few) (s .equations);
+    f-high = f-high limits (partsOf ps) N (s .matrix .few) (s .equations);
+  }
+
+  pub r-range : (pos 0 ≤ᶻ rOf N ds ps D ns) × (rOf N ds ps D ns ≤ᶻ pos 5040000000007875000)
+  r-range = (r-low limits (partsOf ps) N (s .matrix .few) (s .equations), r-high limits (partsOf ps) N (s .matrix .few) (s .equations))

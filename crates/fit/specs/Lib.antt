@@ -1,0 +1,5 @@
+pub mod Quantities
+pub mod Tests
+pub mod Stands
+pub mod Steps
+pub mod Figures

@@ -1,0 +1,53 @@
+-- Document 01's quantities: of a matrix ds of N strains, a tree ps, a denominator D and numerators ns. Each is a sum of exact's,
+-- taken over the pairs of strains and the edges that part them.
+use mathlib.Core.Bool.{Bool}
+use mathlib.Core.List.{List}
+use Prim.Native.Nat.{ℕ}
+use lib.IntN.{ℤ, pos, _*ℤ_}
+use lib.ListN.{length}
+use Rattle.exact.specs.Sum.{sum, pairs, ind}
+use Rattle.exact.specs.LeastSquares.{path, remainder, edgeSum, sumF, sumR, sumH}
+use Rattle.exact.specs.Nearest.{nearest}
+use Rattle.matrix.specs.Place.{distance}
+use Rattle.trees.specs.Chain.{parentOf, partsPair}
+use Rattle.exact.specs.Table.{entryOf}
+
+-- which pairs an edge parts
+abbrev pub partsOf : List ℕ → ℕ → ℕ × ℕ → Bool
+partsOf ps = partsPair (parentOf ps)
+
+-- the split sum of edge v: the distances of the pairs that it parts
+abbrev pub splitSum : ℕ → List ℕ → List ℕ → ℕ → ℤ
+splitSum N ds ps v = pairs N (λ p. ind (partsOf ps v p) *ℤ distance N ds p)
+
+-- p: the path of a pair
+abbrev pub pathOf : List ℕ → List ℤ → ℕ × ℕ → ℤ
+pathOf ps ns p = path (length ps) (partsOf ps) (entryOf ns) p
+
+-- r: the remainder of a pair
+abbrev pub remainderOf : ℕ → List ℕ → List ℕ → ℕ → List ℤ → ℕ × ℕ → ℤ
+remainderOf N ds ps D ns p = remainder (length ps) (partsOf ps) (distance N ds) (pos D) (entryOf ns) p
+
+-- edge v's sum of remainders
+abbrev pub edgeSumOf : ℕ → List ℕ → List ℕ → ℕ → List ℤ → ℕ → ℤ
+edgeSumOf N ds ps D ns v = edgeSum (pairs N) (length ps) (partsOf ps) (distance N ds) (pos D) (entryOf ns) v
+
+-- the numerator of the tree length
+abbrev pub treeLength : List ℤ → ℤ
+treeLength ns = sum (length ns) (entryOf ns)
+
+-- F
+abbrev pub fOf : ℕ → List ℕ → List ℕ → ℕ → List ℤ → ℤ
+fOf N ds ps D ns = sumF (pairs N) (length ps) (partsOf ps) (distance N ds) (pos D) (entryOf ns)
+
+-- m: the length of edge v in thousandths
+abbrev pub roundedOf : ℕ → List ℤ → ℕ → ℤ
+roundedOf D ns v = nearest D (entryOf ns v)
+
+-- R
+abbrev pub rOf : ℕ → List ℕ → List ℕ → ℕ → List ℤ → ℤ
+rOf N ds ps D ns = sumR (pairs N) (length ps) (partsOf ps) (distance N ds) (roundedOf D ns)
+
+-- H
+abbrev pub hOf : ℕ → List ℕ → ℤ
+hOf N ps = sumH (pairs N) (length ps) (partsOf ps)

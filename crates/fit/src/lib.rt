@@ -1,0 +1,1 @@
+// The quantities and the tests of a fit, and what is proved of them: definitions and laws only.

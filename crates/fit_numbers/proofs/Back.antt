@@ -1,0 +1,56 @@
+-- What the code reads back from its bits: a remainder, and a total that fits 63 bits. The idea: each is small enough to come back
+-- as it went in.
+use mathlib.Core.Path.{_≡_, refl, sym, ap, _∙_, subst}
+use mathlib.Core.List.{List}
+use Prim.Native.Nat.{ℕ, _≤_, _<_}
+use lib.Dec.{T}
+use lib.IntN.{ℤ, pos, negsuc, natAbs, _-ℤ_, _*ℤ_}
+use lib.ListN.{getD}
+use lib.Signed.{nonNeg}
+use mir.Syntax.{w64}
+use mir.Val.{SFits, toZ, ofZ}
+use mir.Facts.{toZ-ofZ}
+use Rattle.exact.specs.LeastSquares.{path}
+use Rattle.exact.specs.Order.{_≤ᶻ_}
+use Rattle.exact.proofs.Order.{≤-pos}
+use Rattle.matrix.specs.Place.{place}
+use Rattle.trees.specs.Chain.{parentOf, partsPair}
+use Rattle.exact.specs.Table.{entryOf}
+use Rattle.pairs.specs.Ready.{Ready, remainderAt}
+use Rattle.pairs.proofs.Remaining.{scaled, scaled-fits, remainder-fits, worked}
+
+-- a number that is not negative is its magnitude
+pub whole : (z : ℤ) → pos 0 ≤ᶻ z → z ≡ pos (natAbs z)
+whole (pos n) h = refl
+whole (negsuc n) h = absurd (h .le)
+
+pub not-negative : (z : ℤ) → pos 0 ≤ᶻ z → T (nonNeg z)
+not-negative (pos n) h = tt
+not-negative (negsuc n) h = absurd (h .le)
+
+pub between : (z : ℤ) (b : ℕ) → pos 0 ≤ᶻ z → z ≤ᶻ pos b → natAbs z ≤ b
+between (pos n) b h k = ≤-pos k
+between (negsuc n) b h k = absurd (h .le)
+
+-- the remainder of a pair
+pub remainder-back : {N K D : ℕ} {ds ps cs : List ℕ} {ns : List ℤ} → Ready N K D ds ps cs ns → (i j : ℕ) → i < j → j < N
+    → (off : ℤ) → off ≡ remainderAt N K D ds ps ns (i, j) → toZ w64 (ofZ w64 off) ≡ remainderAt N K D ds ps ns (i, j)
+remainder-back w i j rising strain off e = ap (λ z. toZ w64 (ofZ w64 z)) e ∙ toZ-ofZ (remainder-fits w i j rising strain)
+
+-- the same over thousandths, from the distance that the code reads at k and the path p that it is handed
+abbrev pub offBy : List ℕ → ℕ → ℤ → ℤ
+offBy ds k p = toZ w64 (ofZ w64 (pos 1000 *ℤ toZ w64 (getD ds k 0))) -ℤ toZ w64 (ofZ w64 p)
+
+module _ {N K : ℕ} {ds ps cs : List ℕ} {ns : List ℤ} (w : Ready N K 1000 ds ps cs ns) (i j : ℕ) (rising : i < j) (strain : j < N) (k : ℕ) (e : k ≡ place N i j) where
+  pub thousandfold-fits : SFits w64 (pos 1000 *ℤ toZ w64 (getD ds k 0))
+  thousandfold-fits = subst (λ z. SFits w64 z) (sym (ap (λ a. pos 1000 *ℤ toZ w64 (getD ds a 0)) e ∙ scaled w i j rising strain)) (scaled-fits w i j rising strain)
+
+  module _ (p : ℤ) (f : p ≡ path K (partsPair (parentOf ps)) (entryOf ns) (i, j)) where
+    off-is : offBy ds k p ≡ remainderAt N K 1000 ds ps ns (i, j)
+    off-is = worked w i j rising strain k p e f
+
+    pub off-fits : SFits w64 (offBy ds k p)
+    off-fits = subst (λ z. SFits w64 z) (sym off-is) (remainder-fits w i j rising strain)
+
+    pub off-back : toZ w64 (ofZ w64 (offBy ds k p)) ≡ remainderAt N K 1000 ds ps ns (i, j)
+    off-back = toZ-ofZ off-fits ∙ off-is

@@ -1,0 +1,5 @@
+pub mod Totals
+pub mod Written
+pub mod Back
+pub mod Squares
+pub mod Terms

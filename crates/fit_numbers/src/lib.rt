@@ -1,0 +1,114 @@
+// The numbers of an accepted fit: the tree length, the rounded lengths, F, R and H.
+use tree::Tree;
+ghost use mathlib.Core.Path.{_≡_};
+ghost use mathlib.Core.Bool.{cond};
+ghost use Prim.Native.Nat.{_≤_};
+ghost use lib.Dec.{ltb};
+ghost use lib.IntN.{pos};
+ghost use Rattle.exact.specs.Sum.{sum, pairs};
+ghost use Rattle.exact.specs.Table.{table, entryOf};
+ghost use Rattle.exact.specs.Nearest.{nearest};
+ghost use Rattle.exact.specs.LeastSquares.{sumF, sumR, sumH};
+ghost use Rattle.matrix.specs.Place.{distance};
+ghost use Rattle.trees.specs.Chain.{parentOf, partsPair};
+ghost use Rattle.trees.specs.Limits.{maxEdges};
+ghost use Rattle.lengths.specs.Limits.{maxDenominator};
+ghost use Rattle.pairs.specs.Ready.{Ready, InRange};
+ghost use Rattle.exact.specs.Fits.{Fits63};
+
+// The numerator of the tree length: the sum of all numerators.
+pub fn total(edges: usize, numerators: &[i64]) -> i64
+    requires { ⌜ edges ≤ maxEdges ⌝ }
+    requires { ⌜ InRange edges (now numerators) ⌝ }
+    ensures { λ r. ⌜ r ≡ sum edges (entryOf (now (numerators .entry))) ⌝ }
+{
+    let mut sum: i64 = 0;
+    let mut edge = 0;
+    while edge < edges {
+        sum += numerators[edge];
+        edge += 1;
+    }
+    sum
+}
+
+// m: each length in thousandths, then zeros.
+pub fn rounded(edges: usize, d: u32, numerators: &[i64]) -> [i64; Tree::MAX_EDGES]
+    requires { ⌜ (edges ≤ maxEdges) × (1 ≤ d) × (d ≤ maxDenominator) ⌝ }
+    requires { ⌜ InRange edges (now numerators) ⌝ }
+    ensures { λ r. ⌜ r ≡ table maxEdges (λ v. cond (ltb v edges) (nearest d (entryOf (now (numerators .entry)) v)) (pos 0)) ⌝ }
+{
+    let mut lengths = lengths::no_lengths();
+    let mut v = 0;
+    while v < edges {
+        lengths[v] = arithmetic::thousandths(numerators[v], d);
+        v += 1;
+    }
+    lengths
+}
+
+// F: the sum of d·r over all pairs. The sum travels modulo 2^64, and the total is exact where it fits.
+pub fn sum_f(
+    n: usize,
+    edges: usize,
+    d: u32,
+    distances: &[u16],
+    parents: &[u8],
+    masks: &[u64; Tree::MAX_VERTICES],
+    numerators: &[i64],
+) -> i64
+    requires { ⌜ Ready n edges d (now distances) (now parents) (now masks) (now numerators) ⌝ }
+    requires { ⌜ InRange edges (now numerators) ⌝ }
+    requires { ⌜ Fits63 (sumF (pairs n) edges (partsPair (parentOf (now parents))) (distance n (now distances)) (pos d) (entryOf (now numerators))) ⌝ }
+    ensures { λ r. ⌜ r ≡ sumF (pairs n) edges (partsPair (parentOf (now (parents .entry)))) (distance n (now (distances .entry))) (pos d) (entryOf (now (numerators .entry))) ⌝ }
+{
+    let mut acc: u64 = 0;
+    let mut i = 0;
+    let mut j = 1;
+    while j < n {
+        let far = distances[matrix::place(n, i, j)] as i64;
+        let term = far * pairs::remainder(n, edges, d, distances, parents, masks, numerators, i, j);
+        acc = arithmetic::accumulate(acc, term);
+        let next = pairs::next_pair(i, j);
+        i = next.i;
+        j = next.j;
+    }
+    acc as i64
+}
+
+// The two sums of squares over the pairs. R: of 1000·d less the path over the rounded lengths. H: of the
+// number of edges that part the pair.
+pub struct SquareSums {
+    pub r: i64,
+    pub h: i64,
+}
+
+// R and H in one loop, since the climbs of a pair pass the edges of both.
+pub fn sum_squares(
+    n: usize,
+    edges: usize,
+    distances: &[u16],
+    parents: &[u8],
+    masks: &[u64; Tree::MAX_VERTICES],
+    lengths: &[i64],
+) -> SquareSums
+    requires { ⌜ Ready n edges 1000 (now distances) (now parents) (now masks) (now lengths) ⌝ }
+    requires { ⌜ Fits63 (sumR (pairs n) edges (partsPair (parentOf (now parents))) (distance n (now distances)) (entryOf (now lengths))) ⌝ }
+    ensures { λ s. ⌜ s .r ≡ sumR (pairs n) edges (partsPair (parentOf (now (parents .entry)))) (distance n (now (distances .entry))) (entryOf (now (lengths .entry))) ⌝ }
+    ensures { λ s. ⌜ s .h ≡ sumH (pairs n) edges (partsPair (parentOf (now (parents .entry)))) ⌝ }
+{
+    let mut r: i64 = 0;
+    let mut h: u64 = 0;
+    let mut i = 0;
+    let mut j = 1;
+    while j < n {
+        let far = distances[matrix::place(n, i, j)] as i64;
+        let walked = paths::walked(n, edges, parents, masks, lengths, i, j);
+        let off = 1000 * far - walked.sum;
+        r += off * off;
+        h += walked.edges * walked.edges;
+        let next = pairs::next_pair(i, j);
+        i = next.i;
+        j = next.j;
+    }
+    SquareSums { r, h: h as i64 }
+}

@@ -1,0 +1,30 @@
+-- `unbalanced`: each sum is its edge's, so the test over the table is the test over the edges.
+use mathlib.Core.Path.{_∙_, ap}
+use mathlib.Core.Bool.{not}
+use lib.Dec.{eqb}
+use lib.IntN.{ℤ, natAbs}
+use lib.ListN.{length}
+use Rattle.verdict.proofs.Table.{some-cong}
+use Rattle.pairs.proofs.Lent.{ready, in-range}
+use borrow.Author.Needs.{needs}
+use Rattle.judging.proofs.unbalanced.Statement.{statement}
+use Rattle.judging.proofs.unbalanced.Tie as tie
+
+clusters-requires : tie.Need-clusters-requires
+clusters-requires c κs = search needs
+
+edge-sums-requires : tie.Need-edge-sums-requires
+edge-sums-requires c κs = let s = c .before .before .before .before in
+    (ready (s .args .n) (s .args .parents .now) _ (c .before .clusters .ensures) (s .pre .0) (s .pre .1), in-range (s .pre .1))
+
+some-sum-requires : tie.Need-some-sum-requires
+some-sum-requires c κs = search needs
+
+returns : tie.Need-returns
+returns c = let t = c .before .before in
+    let s = t .before .before .before .before .before in
+    c .some-sum .ensures ∙ some-cong (length (s .args .parents .now)) _ _ (λ v h. ap (λ (z : ℤ). not (eqb (natAbs z) 0)) (t .edge-sums .ensures .entries v h))
+
+pub unbalanced-spec : {M : Type 1} → statement M
+unbalanced-spec =
+    tie.close (tie.spec clusters-requires edge-sums-requires some-sum-requires returns)

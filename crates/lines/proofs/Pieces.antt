@@ -1,0 +1,38 @@
+-- Where there is room for the whole of a text, its pieces may be written one behind another: each leaves room for what follows.
+-- `fields-more`: one number more behind those before it.
+use mathlib.Core.Path.{_≡_, refl, sym, ap, _∙_}
+use mathlib.Core.List.{List, [], _∷_, _++_, append-assoc, append-nil}
+use Prim.Native.Nat.{ℕ, suc, _+_, _<_, _≤_}
+use native.Mathlib.Omega.{arith}
+use lib.IntN.{ℤ, pos}
+use lib.ListN.{length, take, length-append}
+use lib.Seq.{take-suc}
+use Rattle.exact.specs.Table.{entryOf}
+use Rattle.text.specs.Text.{signed, Wrote}
+use Rattle.text.proofs.Writing.{wrote-none, wrote-then, wrote-length}
+use Rattle.lines.specs.Lines.{fields, edgeLines}
+
+-- a piece, and what is written behind it by one who knows that there is room
+pub and-then : {b c d : List ℕ} {at m k : ℕ} {s t : List ℕ} → at + length (s ++ t) ≤ length b → Wrote b c at s m
+    → (m + length t ≤ length c → Wrote c d m t k) → Wrote b d at (s ++ t) k
+and-then {b} {c} {d} {at} {m} {k} {s} {t} room p q =
+    let l : length (s ++ t) ≡ length s + length t = length-append s t in
+    let own : at + length s ≤ length b = omega arith in
+    wrote-then own p (q (omega (arith, p .place, wrote-length own p)))
+
+pub fields-append : (a b : List ℤ) → fields (a ++ b) ≡ fields a ++ fields b
+unfolding fields
+fields-append [] b = refl
+fields-append (z ∷ a) b = ap (λ l. 32 ∷ (signed z ++ l)) (fields-append a b) ∙ ap (λ l. 32 ∷ l) (sym (append-assoc (signed z) (fields a) (fields b)))
+
+pub fields-one : (z : ℤ) → fields (z ∷ []) ≡ 32 ∷ signed z
+unfolding fields
+fields-one z = ap (λ l. 32 ∷ l) (append-nil (signed z))
+
+pub fields-more : (zs : List ℤ) (k : ℕ) → k < length zs → fields (take (suc k) zs) ≡ fields (take k zs) ++ (32 ∷ signed (entryOf zs k))
+fields-more zs k h = ap fields (take-suc zs k (pos 0) h) ∙ fields-append (take k zs) (entryOf zs k ∷ []) ∙ ap (λ l. fields (take k zs) ++ l) (fields-one (entryOf zs k))
+
+-- no edge's line
+pub edges-none : (b : List ℕ) (at : ℕ) (row : ℕ → List ℤ) → Wrote b b at (edgeLines 0 row) at
+unfolding edgeLines
+edges-none b at row = wrote-none b at

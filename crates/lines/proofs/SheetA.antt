@@ -1,0 +1,48 @@
+-- The checker computes the print of sheet A from the definitions: nine lines, seven of its resolved tree, and one for a refusal.
+use mathlib.Core.Path.{_≡_, refl}
+use mathlib.Core.List.{List, [], _∷_, _++_}
+use Prim.Native.Nat.{ℕ}
+use lib.IntN.{pos}
+use lib.ListN.{getD}
+use Rattle.text.specs.Text.{digits}
+use Rattle.lines.specs.Lines.{fields, refusedLine, edgeLines, fitText, resolvedText}
+
+-- "fit 4 5 2", five edges, "length 23", "square 2 1000000 44", "mean 2 12", each with its LF, as bytes
+abbrev pub sheet-a : List ℕ
+sheet-a =
+    (102 ∷ 105 ∷ 116 ∷ 32 ∷ 52 ∷ 32 ∷ 53 ∷ 32 ∷ 50 ∷ 10 ∷ [])
+    ++ (101 ∷ 100 ∷ 103 ∷ 101 ∷ 32 ∷ 48 ∷ 32 ∷ 51 ∷ 32 ∷ 49 ∷ 53 ∷ 48 ∷ 48 ∷ 10 ∷ [])
+    ++ (101 ∷ 100 ∷ 103 ∷ 101 ∷ 32 ∷ 49 ∷ 32 ∷ 51 ∷ 32 ∷ 49 ∷ 53 ∷ 48 ∷ 48 ∷ 10 ∷ [])
+    ++ (101 ∷ 100 ∷ 103 ∷ 101 ∷ 32 ∷ 50 ∷ 32 ∷ 51 ∷ 32 ∷ 49 ∷ 53 ∷ 48 ∷ 48 ∷ 10 ∷ [])
+    ++ (101 ∷ 100 ∷ 103 ∷ 101 ∷ 32 ∷ 51 ∷ 32 ∷ 55 ∷ 32 ∷ 51 ∷ 53 ∷ 48 ∷ 48 ∷ 10 ∷ [])
+    ++ (101 ∷ 100 ∷ 103 ∷ 101 ∷ 32 ∷ 52 ∷ 32 ∷ 55 ∷ 32 ∷ 51 ∷ 53 ∷ 48 ∷ 48 ∷ 10 ∷ [])
+    ++ (108 ∷ 101 ∷ 110 ∷ 103 ∷ 116 ∷ 104 ∷ 32 ∷ 50 ∷ 51 ∷ 10 ∷ [])
+    ++ (115 ∷ 113 ∷ 117 ∷ 97 ∷ 114 ∷ 101 ∷ 32 ∷ 50 ∷ 32 ∷ 49 ∷ 48 ∷ 48 ∷ 48 ∷ 48 ∷ 48 ∷ 48 ∷ 32 ∷ 52 ∷ 52 ∷ 10 ∷ [])
+    ++ (109 ∷ 101 ∷ 97 ∷ 110 ∷ 32 ∷ 50 ∷ 32 ∷ 49 ∷ 50 ∷ 10 ∷ [])
+
+pub print-of-a :
+    fitText 4 5 2 (λ v. getD (pos 3 ∷ pos 3 ∷ pos 3 ∷ pos 7 ∷ pos 7 ∷ []) v (pos 0)) (λ v. getD (pos 1500 ∷ pos 1500 ∷ pos 1500 ∷ pos 3500 ∷ pos 3500 ∷ []) v (pos 0)) (pos 23) (pos 2) (pos 1000000) (pos 44) (pos 12)
+    ≡ sheet-a
+unfolding digits fields edgeLines fitText
+print-of-a = refl
+
+pub print-of-refusal : refusedLine 14 ≡ 114 ∷ 101 ∷ 102 ∷ 117 ∷ 115 ∷ 101 ∷ 100 ∷ 32 ∷ 49 ∷ 52 ∷ 10 ∷ []
+unfolding digits fields
+print-of-refusal = refl
+
+-- "resolved 4 5", five edges, "square 1000000 44"
+abbrev pub tree-a : List ℕ
+tree-a =
+    (114 ∷ 101 ∷ 115 ∷ 111 ∷ 108 ∷ 118 ∷ 101 ∷ 100 ∷ 32 ∷ 52 ∷ 32 ∷ 53 ∷ 10 ∷ [])
+    ++ (101 ∷ 100 ∷ 103 ∷ 101 ∷ 32 ∷ 48 ∷ 32 ∷ 51 ∷ 32 ∷ 50 ∷ 32 ∷ 49 ∷ 53 ∷ 48 ∷ 48 ∷ 10 ∷ [])
+    ++ (101 ∷ 100 ∷ 103 ∷ 101 ∷ 32 ∷ 49 ∷ 32 ∷ 51 ∷ 32 ∷ 50 ∷ 32 ∷ 49 ∷ 53 ∷ 48 ∷ 48 ∷ 10 ∷ [])
+    ++ (101 ∷ 100 ∷ 103 ∷ 101 ∷ 32 ∷ 50 ∷ 32 ∷ 51 ∷ 32 ∷ 50 ∷ 32 ∷ 49 ∷ 53 ∷ 48 ∷ 48 ∷ 10 ∷ [])
+    ++ (101 ∷ 100 ∷ 103 ∷ 101 ∷ 32 ∷ 51 ∷ 32 ∷ 55 ∷ 32 ∷ 50 ∷ 32 ∷ 51 ∷ 53 ∷ 48 ∷ 48 ∷ 10 ∷ [])
+    ++ (101 ∷ 100 ∷ 103 ∷ 101 ∷ 32 ∷ 52 ∷ 32 ∷ 55 ∷ 32 ∷ 50 ∷ 32 ∷ 51 ∷ 53 ∷ 48 ∷ 48 ∷ 10 ∷ [])
+    ++ (115 ∷ 113 ∷ 117 ∷ 97 ∷ 114 ∷ 101 ∷ 32 ∷ 49 ∷ 48 ∷ 48 ∷ 48 ∷ 48 ∷ 48 ∷ 48 ∷ 32 ∷ 52 ∷ 52 ∷ 10 ∷ [])
+
+pub print-of-tree-a :
+    resolvedText 4 5 (λ v. getD (pos 3 ∷ pos 3 ∷ pos 3 ∷ pos 7 ∷ pos 7 ∷ []) v (pos 0)) (λ v. 2) (λ v. getD (pos 1500 ∷ pos 1500 ∷ pos 1500 ∷ pos 3500 ∷ pos 3500 ∷ []) v (pos 0)) (pos 1000000) (pos 44)
+    ≡ tree-a
+unfolding digits fields edgeLines resolvedText
+print-of-tree-a = refl

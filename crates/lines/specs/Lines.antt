@@ -1,0 +1,67 @@
+-- The print of a report, as document 01 lays it out, and that of a resolved tree fitted with no proposal: a line is a word and numbers,
+-- a space before each, and ends in LF.
+use mathlib.Core.List.{List, [], _∷_, _++_}
+use Prim.Native.Nat.{ℕ, zero, suc}
+use lib.IntN.{ℤ, pos}
+use Rattle.text.specs.Text.{signed}
+
+-- the end of a line
+abbrev pub end : List ℕ
+end = 10 ∷ []
+
+-- numbers, a space before each
+unfoldable pub fields : List ℤ → List ℕ
+fields [] = []
+fields (z ∷ zs) = 32 ∷ (signed z ++ fields zs)
+
+-- a line
+abbrev pub line : List ℕ → List ℤ → List ℕ
+line word zs = word ++ (fields zs ++ end)
+
+-- "refused", "fit", "edge", "length", "square", "mean", "resolved"
+abbrev pub refusedWord : List ℕ
+refusedWord = 114 ∷ 101 ∷ 102 ∷ 117 ∷ 115 ∷ 101 ∷ 100 ∷ []
+
+abbrev pub fitWord : List ℕ
+fitWord = 102 ∷ 105 ∷ 116 ∷ []
+
+abbrev pub edgeWord : List ℕ
+edgeWord = 101 ∷ 100 ∷ 103 ∷ 101 ∷ []
+
+abbrev pub lengthWord : List ℕ
+lengthWord = 108 ∷ 101 ∷ 110 ∷ 103 ∷ 116 ∷ 104 ∷ []
+
+abbrev pub squareWord : List ℕ
+squareWord = 115 ∷ 113 ∷ 117 ∷ 97 ∷ 114 ∷ 101 ∷ []
+
+abbrev pub meanWord : List ℕ
+meanWord = 109 ∷ 101 ∷ 97 ∷ 110 ∷ []
+
+abbrev pub resolvedWord : List ℕ
+resolvedWord = 114 ∷ 101 ∷ 115 ∷ 111 ∷ 108 ∷ 118 ∷ 101 ∷ 100 ∷ []
+
+-- refused, the number
+abbrev pub refusedLine : ℕ → List ℕ
+refusedLine k = line refusedWord (pos k ∷ [])
+
+-- a line for each of the first K edges: edge, the edge, its row of numbers
+unfoldable pub edgeLines : ℕ → (ℕ → List ℤ) → List ℕ
+edgeLines zero row = []
+edgeLines (suc K) row = edgeLines K row ++ line edgeWord (pos K ∷ row K)
+
+-- the whole print of a fit: fit N K D; edge, the edge, n, m; length, the numerator of the tree length; square F R H; mean, the two
+-- numbers of the mean square
+unfoldable pub fitText : ℕ → ℕ → ℕ → (ℕ → ℤ) → (ℕ → ℤ) → ℤ → ℤ → ℤ → ℤ → ℤ → List ℕ
+fitText N K D n m total F R H over =
+    line fitWord (pos N ∷ pos K ∷ pos D ∷ [])
+    ++ (edgeLines K (λ v. n v ∷ m v ∷ [])
+    ++ (line lengthWord (total ∷ [])
+    ++ (line squareWord (F ∷ R ∷ H ∷ [])
+    ++ line meanWord (F ∷ over ∷ []))))
+
+-- the whole print of a resolved tree: resolved N K; edge, the edge, its numerator and its denominator, m; square R H
+unfoldable pub resolvedText : ℕ → ℕ → (ℕ → ℤ) → (ℕ → ℕ) → (ℕ → ℤ) → ℤ → ℤ → List ℕ
+resolvedText N K n d m R H =
+    line resolvedWord (pos N ∷ pos K ∷ [])
+    ++ (edgeLines K (λ v. n v ∷ pos (d v) ∷ m v ∷ [])
+    ++ line squareWord (R ∷ H ∷ []))

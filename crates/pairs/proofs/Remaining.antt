@@ -1,0 +1,56 @@
+-- The remainder of a pair, as the code works it: where its distance stands, and that every step fits.
+use mathlib.Core.Path.{_≡_, ap₂}
+use mathlib.Core.List.{List}
+use Prim.Native.Nat.{ℕ, _+_, _*_, _<_, _≤_}
+use native.Mathlib.Nat.{mul-le-mul}
+use native.Mathlib.Omega.{arith}
+use lib.IntN.{ℤ, pos, _-ℤ_, _*ℤ_, natAbs}
+use lib.ListN.{length, getD}
+use mir.Syntax.{w64}
+use mir.Val.{SFits, toZ, ofZ}
+use mir.Facts.{toZ-ofZ}
+use Rattle.exact.specs.LeastSquares.{path}
+use Rattle.exact.proofs.Sign.{natAbs-sub, fits-abs, back-pos}
+use Rattle.matrix.specs.Limits.{maxDistance}
+use Rattle.matrix.specs.Place.{place}
+use Rattle.matrix.proofs.Places.{place-bound}
+use Rattle.trees.specs.Chain.{parentOf, partsPair}
+use Rattle.exact.specs.Table.{entryOf}
+use Rattle.lengths.specs.Limits.{maxDenominator}
+use Rattle.paths.proofs.Bounds.{farthestPath, path-near}
+use Rattle.pairs.specs.Ready.{Ready, remainderAt}
+
+module _ {N K D : ℕ} {ds ps cs : List ℕ} {ns : List ℤ} (w : Ready N K D ds ps cs ns) (i j : ℕ) (rising : i < j) (strain : j < N) where
+  pub slot : place N i j < length ds
+  slot = omega (arith, place-bound N i j rising strain, w .room)
+
+  -- the distance of the pair
+  abbrev pub far : ℕ
+  far = getD ds (place N i j) 0
+
+  product-small : D * far ≤ maxDenominator * maxDistance
+  product-small = mul-le-mul {n₂ = maxDenominator} {m₂ = maxDistance} (w .most) (w .near (place N i j))
+
+  -- D times the distance, as it is cast and multiplied
+  pub scaled : toZ w64 D *ℤ toZ w64 far ≡ pos D *ℤ pos far
+  scaled = ap₂ _*ℤ_ (back-pos D (omega (arith, w .most))) (back-pos far (omega (arith, w .near (place N i j))))
+
+  pub scaled-fits : SFits w64 (pos D *ℤ pos far)
+  scaled-fits = fits-abs (pos D *ℤ pos far) (omega (arith, product-small))
+
+  path-small : natAbs (path K (partsPair (parentOf ps)) (entryOf ns) (i, j)) ≤ farthestPath
+  path-small = path-near (w .small) (omega (arith, w .standing .allowed .few, w .standing .allowed .most)) (parentOf ps) (i, j)
+
+  pub path-fits : SFits w64 (path K (partsPair (parentOf ps)) (entryOf ns) (i, j))
+  path-fits = fits-abs (path K (partsPair (parentOf ps)) (entryOf ns) (i, j)) (omega (arith, path-small))
+
+  pub remainder-small : natAbs (remainderAt N K D ds ps ns (i, j)) ≤ farthestPath + maxDenominator * maxDistance
+  remainder-small = omega (arith, natAbs-sub (pos D *ℤ pos far) (path K (partsPair (parentOf ps)) (entryOf ns) (i, j)), path-small, product-small)
+
+  pub remainder-fits : SFits w64 (remainderAt N K D ds ps ns (i, j))
+  remainder-fits = fits-abs (remainderAt N K D ds ps ns (i, j)) (omega (arith, remainder-small))
+
+  -- the code's difference, step by step, is the remainder
+  pub worked : (slot′ : ℕ) (walked : ℤ) → slot′ ≡ place N i j → walked ≡ path K (partsPair (parentOf ps)) (entryOf ns) (i, j)
+      → toZ w64 (ofZ w64 (toZ w64 D *ℤ toZ w64 (getD ds slot′ 0))) -ℤ toZ w64 (ofZ w64 walked) ≡ remainderAt N K D ds ps ns (i, j)
+  worked slot′ walked e f = rw (e, f, scaled) (ap₂ _-ℤ_ (toZ-ofZ scaled-fits) (toZ-ofZ path-fits))

@@ -1,0 +1,21 @@
+-- `check_posting`: the first refusal of the two answers.
+use mathlib.Core.Path.{_∙_, ap₂}
+use borrow.Author.Needs.{needs}
+use Rattle.verdict.specs.Number.{_orElse_}
+use Rattle.posting.proofs.check_posting.Statement.{statement}
+use Rattle.posting.proofs.check_posting.Tie as tie
+
+check-matrix-requires : tie.Need-check-matrix-requires
+check-matrix-requires c κs = search needs
+
+check-tree-requires : tie.Need-check-tree-requires
+check-tree-requires c κs = search needs
+
+or-else-requires : tie.Need-or-else-requires
+or-else-requires c κs = search needs
+
+returns : tie.Need-returns
+returns c = c .or-else .ensures ∙ ap₂ _orElse_ (c .before .before .check-matrix .ensures) (c .before .check-tree .ensures)
+
+pub check-posting-spec : {M : Type 1} → statement M
+check-posting-spec = tie.close (tie.spec check-matrix-requires check-tree-requires or-else-requires returns)

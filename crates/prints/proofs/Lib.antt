@@ -1,0 +1,5 @@
+pub mod Texts
+pub mod Sheets
+pub mod Unfitted
+pub mod Settled
+pub mod SheetA

@@ -1,0 +1,69 @@
+-- The print of a sheet's report is the print of the sheet.
+-- `few-edges`: what the print asks. `shown-is`: the text of the report is document 01's print of what the sheet holds.
+use mathlib.Core.Path.{_≡_, refl, sym, _∙_, ap, ap₂, subst}
+use mathlib.Core.List.{List, [], _∷_, _++_}
+use Prim.Native.Nat.{ℕ, zero, suc, _*_, _≤_, _<_}
+use native.Mathlib.Decide.{ℕ-discrete}
+use native.Mathlib.Omega.{arith}
+use lib.IntN.{ℤ, pos}
+use lib.ListN.{length}
+use Rattle.exact.specs.Table.{entryOf}
+use Rattle.exact.proofs.Decide.{by-cases}
+use Rattle.matrix.specs.Place.{pairCount}
+use Rattle.trees.specs.Limits.{maxEdges}
+use Rattle.fit.specs.Quantities.{roundedOf, treeLength, fOf, rOf, hOf}
+use Rattle.text.specs.Text.{Wrote}
+use Rattle.lines.specs.Lines.{line, edgeWord, edgeLines, fitText, fitWord, lengthWord, squareWord, meanWord}
+use Rattle.lines.specs.Page.{pageSize}
+use Rattle.lines.proofs.Sizes.{text-length}
+use Rattle.reading.specs.Holds.{strainsOf, distancesOf, parentsOf, denominatorOf, numeratorsOf}
+use Rattle.reading.specs.Tests.{sheetNumber}
+use Rattle.reporting.specs.Answers.{Reported}
+use Rattle.sheet.specs.declared.SheetFit.{SheetFit}
+use Rattle.sheet.specs.Reports.{Fitted, SheetReport}
+use Rattle.prints.specs.Texts.{reportText, fitOfSheet, sheetText, Shown}
+use Rattle.prints.proofs.Texts.{text-by-number, fits-page, whole-page}
+
+-- rows that agree at the edges have the same lines
+pub rows-cong : (K : ℕ) (row row′ : ℕ → List ℤ) → ((v : ℕ) → v < K → row v ≡ row′ v) → edgeLines K row ≡ edgeLines K row′
+unfolding edgeLines
+rows-cong zero row row′ f = refl
+rows-cong (suc K) row row′ f = ap₂ _++_ (rows-cong K row row′ (λ v l. f v (omega arith))) (ap (λ (r : List ℤ). line edgeWord (pos K ∷ r)) (f K (omega arith)))
+
+fit-cong : (N K D : ℕ) (n n′ m m′ : ℕ → ℤ) (total F R H over : ℤ) → ((v : ℕ) → v < K → n v ≡ n′ v) → ((v : ℕ) → v < K → m v ≡ m′ v)
+    → fitText N K D n m total F R H over ≡ fitText N K D n′ m′ total F R H over
+unfolding fitText
+fit-cong N K D n n′ m m′ total F R H over f g =
+    ap (λ (e : List ℕ). line fitWord (pos N ∷ pos K ∷ pos D ∷ []) ++ (e ++ (line lengthWord (total ∷ []) ++ (line squareWord (F ∷ R ∷ H ∷ []) ++ line meanWord (F ∷ over ∷ [])))))
+    (rows-cong K (λ v. n v ∷ m v ∷ []) (λ v. n′ v ∷ m′ v ∷ []) (λ v l. ap₂ (λ (a b : ℤ). a ∷ b ∷ []) (f v l) (g v l)))
+
+module _ (s : List ℕ) (x : SheetFit) (a : SheetReport s x) where
+  module _ (z : sheetNumber s ≡ 0) where
+    fit : Fitted s x
+    fit = a .fitted z
+
+    text-is : fitText (x .report .strains) (x .report .edges) (x .report .denominator) (entryOf (x .numerators)) (entryOf (x .rounded)) (x .report .length) (x .report .f) (x .report .r) (x .report .h) (x .report .mean) ≡ fitOfSheet s
+    text-is = let p = fit .reported in
+        ap₂ (λ (N K : ℕ). fitText N K (x .report .denominator) (entryOf (x .numerators)) (entryOf (x .rounded)) (x .report .length) (x .report .f) (x .report .r) (x .report .h) (x .report .mean)) (p .strains) (p .edges)
+        ∙ ap (λ (D : ℕ). fitText (strainsOf s) (length (parentsOf s)) D (entryOf (x .numerators)) (entryOf (x .rounded)) (x .report .length) (x .report .f) (x .report .r) (x .report .h) (x .report .mean)) (p .denominator)
+        ∙ fit-cong (strainsOf s) (length (parentsOf s)) (denominatorOf s) (entryOf (x .numerators)) (entryOf (numeratorsOf s)) (entryOf (x .rounded)) (roundedOf (denominatorOf s) (numeratorsOf s)) (x .report .length) (x .report .f) (x .report .r) (x .report .h) (x .report .mean) (fit .numerators .entries) (fit .rounded .entries)
+        ∙ ap₂ (λ (t F : ℤ). fitText (strainsOf s) (length (parentsOf s)) (denominatorOf s) (entryOf (numeratorsOf s)) (roundedOf (denominatorOf s) (numeratorsOf s)) t F (x .report .r) (x .report .h) (x .report .mean)) (p .total) (p .f)
+        ∙ ap₂ (λ (R H : ℤ). fitText (strainsOf s) (length (parentsOf s)) (denominatorOf s) (entryOf (numeratorsOf s)) (roundedOf (denominatorOf s) (numeratorsOf s)) (treeLength (numeratorsOf s)) (fOf (strainsOf s) (distancesOf s) (parentsOf s) (denominatorOf s) (numeratorsOf s)) R H (x .report .mean)) (p .r) (p .h)
+        ∙ ap (λ (m : ℤ). fitText (strainsOf s) (length (parentsOf s)) (denominatorOf s) (entryOf (numeratorsOf s)) (roundedOf (denominatorOf s) (numeratorsOf s)) (treeLength (numeratorsOf s)) (fOf (strainsOf s) (distancesOf s) (parentsOf s) (denominatorOf s) (numeratorsOf s)) (rOf (strainsOf s) (distancesOf s) (parentsOf s) (denominatorOf s) (numeratorsOf s)) (hOf (strainsOf s) (parentsOf s)) m) (p .mean)
+
+    edges-few : length (parentsOf s) ≤ maxEdges
+    edges-few = fit .reported .stands .lengths .few
+
+  pub few-edges : x .report .edges ≤ maxEdges
+  few-edges = by-cases (ℕ-discrete (sheetNumber s) 0)
+      (λ z. omega (arith, a .fitted z .reported .edges, edges-few z))
+      (λ n. omega (arith, a .unfitted n .silent .edges))
+
+  pub shown-is : reportText x ≡ sheetText s
+  shown-is = text-by-number (sheetNumber s) (fitOfSheet s) (x .report .verdict) _ (a .number) text-is
+
+  -- so what is written is the print of the sheet
+  pub shows-sheet : (before after : List ℕ) (next : ℕ) → pageSize ≤ length before → Wrote before after 0 (reportText x) next → Shown (sheetText s) before after next
+  shows-sheet before after next h w = whole-page (sheetText s) before after next
+      (fits-page (sheetNumber s) (fitOfSheet s) (λ z. text-length _ (length (parentsOf s)) _ _ _ _ _ _ _ _ (edges-few z)))
+      h (subst (λ (t : List ℕ). Wrote before after 0 t next) shown-is w)

@@ -1,0 +1,105 @@
+// What the programs show: the print of a sheet, with its lengths or without, at the front of a lent buffer of a page
+// or more.
+use sheet::SheetFit;
+use unfitted::UnfittedFit;
+use verdict::Verdict;
+ghost use mathlib.Core.Path.{_≡_};
+ghost use Prim.Native.Nat.{_≤_};
+ghost use lib.ListN.{length};
+ghost use Rattle.exact.specs.Table.{table};
+ghost use Rattle.text.specs.Text.{Wrote};
+ghost use Rattle.lines.specs.Page.{pageSize};
+ghost use Rattle.trees.specs.Limits.{maxEdges};
+ghost use Rattle.prints.specs.Texts.{reportText, sheetText, directText, unfittedText, Shown};
+
+// The bytes of a page: every print fits one.
+pub const PAGE: usize = 16_384;
+
+// A blank page.
+pub fn page() -> [u8; PAGE]
+    ensures { λ r. ⌜ r ≡ table pageSize (λ _. 0) ⌝ }
+{
+    [0; PAGE]
+}
+
+// The print of a report with its two tables.
+fn report_text(fit: SheetFit, text: &mut [u8]) -> usize
+    requires { ⌜ fit .report .edges ≤ maxEdges ⌝ }
+    requires { ⌜ pageSize ≤ length (now text) ⌝ }
+    ensures { λ r. ⌜ Wrote (now (text .entry)) (now (text .exit)) 0 (reportText fit) r ⌝ }
+{
+    let report = fit.report;
+    let verdict = report.verdict;
+    let numerators = fit.numerators;
+    let rounded = fit.rounded;
+    match verdict {
+        Verdict::Refused(reason) => lines::refused_line(
+            text,
+            0,
+            verdict::number(Verdict::Refused(reason)),
+        ),
+        Verdict::Accepted => print::fit_text(
+            text,
+            report.strains,
+            report.edges,
+            report.denominator,
+            &numerators,
+            &rounded,
+            report.length,
+            report.f,
+            report.r,
+            report.h,
+            report.mean,
+        ),
+    }
+}
+
+// The print of a sheet, at the front of a buffer of a page or more; a smaller one is left as it was.
+pub fn sheet_text(s: &[u8], text: &mut [u8]) -> usize
+    ensures { λ r. ⌜ Shown (sheetText (now (s .entry))) (now (text .entry)) (now (text .exit)) r ⌝ }
+{
+    if text.len() < PAGE {
+        return 0;
+    }
+    report_text(sheet::sheet_report(s), text)
+}
+
+// The print of a direct fit with its three tables.
+fn direct_text(fit: UnfittedFit, text: &mut [u8]) -> usize
+    requires { ⌜ fit .edges ≤ maxEdges ⌝ }
+    requires { ⌜ pageSize ≤ length (now text) ⌝ }
+    ensures { λ r. ⌜ Wrote (now (text .entry)) (now (text .exit)) 0 (directText fit) r ⌝ }
+{
+    let numbers = fit.fit;
+    let verdict = numbers.verdict;
+    let tops = fit.tops;
+    let bottoms = fit.bottoms;
+    let rounded = fit.rounded;
+    match verdict {
+        Verdict::Refused(reason) => lines::refused_line(
+            text,
+            0,
+            verdict::number(Verdict::Refused(reason)),
+        ),
+        Verdict::Accepted => print::resolved_text(
+            text,
+            fit.strains,
+            fit.edges,
+            &tops,
+            &bottoms,
+            &rounded,
+            numbers.r,
+            numbers.h,
+        ),
+    }
+}
+
+// The print of a sheet without lengths, at the front of a buffer of a page or more; a smaller one is left as it was.
+pub fn unfitted_text(s: &[u8], text: &mut [u8]) -> usize
+    ensures { λ r. ⌜ Shown (unfittedText (now (s .entry))) (now (text .entry)) (now (text .exit)) r ⌝ }
+{
+    if text.len() < PAGE {
+        return 0;
+    }
+    direct_text(unfitted::unfitted_fit(s), text)
+}

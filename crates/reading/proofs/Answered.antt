@@ -1,0 +1,88 @@
+-- The reader's answer by the answers to the form, to matrix and tree, and to the count of the lengths.
+use mathlib.Core.Path.{_≡_, sym, ap, _∙_}
+use mathlib.Core.List.{List}
+use Prim.Native.Nat.{ℕ, _-_, _<_, _≤_}
+use native.Mathlib.Omega.{arith}
+use borrow.Author.Tests.{lt-ltb, le-ltb, eq-eqb}
+use lib.ListN.{length}
+use Rattle.exact.proofs.Fill.{length-table}
+use Rattle.verdict.specs.declared.Reason.{Reason}
+use Rattle.verdict.specs.declared.Reason.the-variants.{Strains}
+use Rattle.verdict.specs.declared.Verdict.{Verdict}
+use Rattle.verdict.specs.declared.Verdict.the-variants.{Accepted, Refused}
+use Rattle.verdict.specs.Number.{numberOf, refusalOf, test, _orElse_}
+use Rattle.verdict.proofs.Answers.{orElse-zero, not-zero, refused-row}
+use Rattle.matrix.specs.Limits.{minStrains, maxStrains}
+use Rattle.matrix.specs.Place.{pairCount}
+use Rattle.matrix.specs.Tests.{matrixNumber}
+use Rattle.trees.specs.Limits.{maxEdges}
+use Rattle.fit.specs.Tests.{postedNumber}
+use Rattle.fit.specs.Stands.{Posted}
+use Rattle.fit.proofs.Exactly.{→posted}
+use Rattle.records.specs.Form.{formNumber}
+use Rattle.reading.specs.declared.Sheet.{Sheet}
+use Rattle.reading.specs.Holds.{strainsOf, distancesOf, verticesOf, parentsOf}
+use Rattle.reading.specs.Tests.{strainsDiffer, edgesDiffer, pairNumber, readNumber}
+use Rattle.reading.specs.Reads.{Held, Blank, SheetAnswer}
+
+-- ---- matrix and tree that pass
+module _ (s : List ℕ) (z : pairNumber s ≡ 0) where
+  pub pair-posted : Posted (strainsOf s) (distancesOf s) (parentsOf s)
+  pair-posted =
+      let N = strainsOf s in
+      let ds = distancesOf s in
+      let (_, r) = orElse-zero (matrixNumber N ds) (test 8 (strainsDiffer s) orElse postedNumber N ds (parentsOf s)) z in
+      →posted N ds (parentsOf s) (orElse-zero (test 8 (strainsDiffer s)) (postedNumber N ds (parentsOf s)) r .1)
+
+  pub parents-few : verticesOf s - 1 ≤ maxEdges
+  parents-few =
+      let e : length (parentsOf s) ≡ verticesOf s - 1 = length-table (verticesOf s - 1) _ in
+      omega (arith, pair-posted .tree .most, pair-posted .tree .few)
+
+-- ---- a refusal has zeros everywhere
+module _ (count : ℕ) (s : List ℕ) (x : Sheet) where
+  answer-refused : (r : Reason) → (x .verdict ≡ Refused r) × Blank x → readNumber count s ≡ refusalOf r → SheetAnswer count s x
+  answer-refused r e f = record {
+    number = ap numberOf (e .0) ∙ sym f;
+    held = λ z. absurd (not-zero r (sym f ∙ z));
+    blank = λ _. e .1;
+  }
+
+  -- the form's
+  pub form-refused : (v : Verdict) (r : Reason) → numberOf v ≡ formNumber count s → v ≡ Refused r → (x .verdict ≡ Refused r) × Blank x → SheetAnswer count s x
+  form-refused v r f g e = answer-refused r e (sym (refused-row r v (formNumber count s) (pairNumber s orElse test 11 (edgesDiffer count s)) g f))
+
+  module _ (z : formNumber count s ≡ 0) where
+    past-form : readNumber count s ≡ (pairNumber s orElse test 11 (edgesDiffer count s))
+    past-form = ap (λ (k : ℕ). k orElse pairNumber s orElse test 11 (edgesDiffer count s)) z
+
+    -- more strains than a matrix may have
+    many : maxStrains < strainsOf s → matrixNumber (strainsOf s) (distancesOf s) ≡ 6
+    many h =
+        simp (
+          eq-eqb (length (distancesOf s)) (pairCount (strainsOf s)) (length-table (pairCount (strainsOf s)) _),
+          le-ltb (strainsOf s) minStrains (omega arith),
+          lt-ltb maxStrains (strainsOf s) h,
+        )
+
+    pub many-strains : (n : ℕ) → n ≡ strainsOf s → maxStrains < n → (x .verdict ≡ Refused Strains) × Blank x → SheetAnswer count s x
+    many-strains n e h f =
+        answer-refused Strains f
+        (past-form ∙ ap (λ (k : ℕ). (k orElse test 8 (strainsDiffer s) orElse postedNumber (strainsOf s) (distancesOf s) (parentsOf s)) orElse test 11 (edgesDiffer count s)) (many (omega arith)))
+
+    -- the matrix's and the tree's
+    pub pair-refused : (v : Verdict) (r : Reason) → numberOf v ≡ pairNumber s → v ≡ Refused r → (x .verdict ≡ Refused r) × Blank x → SheetAnswer count s x
+    pair-refused v r f g e = answer-refused r e (past-form ∙ sym (refused-row r v (pairNumber s) (test 11 (edgesDiffer count s)) g f))
+
+    module _ (y : pairNumber s ≡ 0) where
+      past-pair : readNumber count s ≡ test 11 (edgesDiffer count s)
+      past-pair = past-form ∙ ap (λ (k : ℕ). k orElse test 11 (edgesDiffer count s)) y
+
+      -- the lengths'
+      pub lengths-refused : (v : Verdict) (r : Reason) → numberOf v ≡ test 11 (edgesDiffer count s) → v ≡ Refused r → (x .verdict ≡ Refused r) × Blank x → SheetAnswer count s x
+      lengths-refused v r f g e = answer-refused r e (past-pair ∙ sym f ∙ ap numberOf g)
+
+      pub all-held : (v : Verdict) → numberOf v ≡ test 11 (edgesDiffer count s) → v ≡ Accepted → x .verdict ≡ Accepted → Held count s x → SheetAnswer count s x
+      all-held v f g e h =
+          let t = past-pair ∙ sym f ∙ ap numberOf g in
+          record { number = ap numberOf e ∙ sym t; held = λ _. h; blank = λ n. absurd (n t) }

@@ -1,0 +1,80 @@
+-- Sheet A, byte by byte: its form, what its records hold, and its number, computed.
+use mathlib.Core.Path.{_≡_, refl}
+use mathlib.Core.List.{List, [], _∷_}
+use Prim.Native.Nat.{ℕ}
+use lib.IntN.{pos, negsuc}
+use lib.ListN.{length, take}
+use Rattle.exact.specs.Sum.{sum, pairs, ind}
+use Rattle.exact.specs.Table.{tableFrom}
+use Rattle.exact.specs.LeastSquares.{path}
+use Rattle.verdict.specs.Table.{some, count}
+use Rattle.matrix.specs.Place.{rowStart, place}
+use Rattle.trees.specs.Chain.{lift, below, parts}
+use Rattle.endian.specs.Bytes.{number, twos}
+use Rattle.records.specs.Form.{startOf, recordsNumber, formNumber}
+use Rattle.reading.specs.Holds.{strainsOf, distancesOf, treeStrainsOf, parentsOf, denominatorOf, numeratorsOf}
+use Rattle.reading.specs.Tests.{readNumber, sheetNumber}
+
+-- three heads, each with its body
+abbrev pub sheetA : List ℕ
+sheetA =
+    14 ∷ 0 ∷ 0 ∷ 0 ∷ 1 ∷ 0
+    ∷ 4 ∷ 0 ∷ 3 ∷ 0 ∷ 7 ∷ 0 ∷ 8 ∷ 0 ∷ 6 ∷ 0 ∷ 9 ∷ 0 ∷ 5 ∷ 0
+    ∷ 9 ∷ 0 ∷ 0 ∷ 0 ∷ 2 ∷ 0
+    ∷ 4 ∷ 0 ∷ 6 ∷ 0 ∷ 4 ∷ 4 ∷ 5 ∷ 5 ∷ 5
+    ∷ 46 ∷ 0 ∷ 0 ∷ 0 ∷ 3 ∷ 0
+    ∷ 2 ∷ 0 ∷ 0 ∷ 0 ∷ 5 ∷ 0
+    ∷ 3 ∷ 0 ∷ 0 ∷ 0 ∷ 0 ∷ 0 ∷ 0 ∷ 0
+    ∷ 3 ∷ 0 ∷ 0 ∷ 0 ∷ 0 ∷ 0 ∷ 0 ∷ 0
+    ∷ 3 ∷ 0 ∷ 0 ∷ 0 ∷ 0 ∷ 0 ∷ 0 ∷ 0
+    ∷ 7 ∷ 0 ∷ 0 ∷ 0 ∷ 0 ∷ 0 ∷ 0 ∷ 0
+    ∷ 7 ∷ 0 ∷ 0 ∷ 0 ∷ 0 ∷ 0 ∷ 0 ∷ 0
+    ∷ []
+
+pub all-bytes : length sheetA ≡ 87
+all-bytes = refl
+
+pub form : formNumber 3 sheetA ≡ 0
+unfolding number startOf recordsNumber
+form = refl
+
+pub strains : (strainsOf sheetA ≡ 4) × (treeStrainsOf sheetA ≡ 4)
+unfolding number startOf recordsNumber
+strains = (refl, refl)
+
+pub distances : distancesOf sheetA ≡ 3 ∷ 7 ∷ 8 ∷ 6 ∷ 9 ∷ 5 ∷ []
+unfolding number startOf tableFrom
+distances = refl
+
+pub parents : parentsOf sheetA ≡ 4 ∷ 4 ∷ 5 ∷ 5 ∷ 5 ∷ []
+unfolding number startOf tableFrom
+parents = refl
+
+pub denominator : denominatorOf sheetA ≡ 2
+unfolding number startOf recordsNumber
+denominator = refl
+
+pub numerators : numeratorsOf sheetA ≡ pos 3 ∷ pos 3 ∷ pos 3 ∷ pos 7 ∷ pos 7 ∷ []
+unfolding number startOf tableFrom
+numerators = refl
+
+pub accepted : sheetNumber sheetA ≡ 0
+unfolding sum pairs ind tableFrom path some count rowStart place lift below parts number startOf recordsNumber
+accepted = refl
+
+-- its first two records: a sheet without lengths. The whole sheet is none, since bytes are left.
+abbrev pub bareA : List ℕ
+bareA = take 35 sheetA
+
+pub bare-accepted : (formNumber 2 bareA ≡ 0) × (readNumber 2 bareA ≡ 0) × (formNumber 2 sheetA ≡ 5)
+unfolding tableFrom some count number startOf recordsNumber
+bare-accepted = (refl, refl, refl)
+
+pub same-front : (distancesOf bareA ≡ distancesOf sheetA) × (parentsOf bareA ≡ parentsOf sheetA)
+unfolding tableFrom number startOf
+same-front = (refl, refl)
+
+-- eight bytes of a number below zero
+pub below-zero : twos (number 8 (253 ∷ 255 ∷ 255 ∷ 255 ∷ 255 ∷ 255 ∷ 255 ∷ 255 ∷ []) 0) ≡ negsuc 2
+unfolding number startOf recordsNumber
+below-zero = refl

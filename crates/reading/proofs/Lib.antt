@@ -1,0 +1,9 @@
+pub mod Formed
+pub mod Lengthened
+pub mod Answered
+pub mod Settled
+pub mod Parts
+pub mod Whole
+pub mod Readable
+pub mod Longest
+pub mod Example

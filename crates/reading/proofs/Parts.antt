@@ -1,0 +1,141 @@
+-- For a caller of `read`: what its parts are, where it accepts. `read-parts` serves a sheet of two or three records, `read-lengths` one of
+-- three.
+use mathlib.Core.Path.{_≡_, refl, sym, ap, ap₂, _∙_}
+use mathlib.Core.Bool.{false}
+use mathlib.Core.List.{List}
+use Prim.Native.Nat.{ℕ, _-_, _≤_}
+use native.Mathlib.Omega.{arith}
+use borrow.Author.Tests.{eqb-true, not-false}
+use lib.Dec.{eqb}
+use lib.IntN.{ℤ, pos}
+use lib.ListN.{length, take, drop}
+use Rattle.exact.specs.Table.{table, padded}
+use Rattle.exact.proofs.Fill.{length-table}
+use Rattle.verdict.specs.declared.Verdict.the-variants.{Accepted}
+use Rattle.verdict.specs.Number.{numberOf, test, _orElse_}
+use Rattle.verdict.proofs.Answers.{orElse-zero, test-zero}
+use Rattle.matrix.specs.Limits.{maxPairs}
+use Rattle.matrix.specs.Place.{pairCount}
+use Rattle.matrix.proofs.Places.{pairs-few}
+use Rattle.trees.specs.Limits.{maxEdges}
+use Rattle.fit.specs.Stands.{Posted}
+use Rattle.records.specs.Form.{formNumber, startOf}
+use Rattle.records.proofs.Decoding.{front-is, front-length, front-there}
+use Rattle.reading.specs.declared.Sheet.{Sheet}
+use Rattle.reading.specs.Holds.{strainsOf, distanceAt, distancesOf, verticesOf, parentsOf, denominatorOf, edgesOf, numeratorAt, numeratorsOf}
+use Rattle.reading.specs.Tests.{edgesDiffer, pairNumber, readNumber}
+use Rattle.reading.specs.Reads.{Held, SheetAnswer}
+use Rattle.reading.proofs.Formed.{Fronted, fronted, parents-start, parents-count, parents-are}
+use Rattle.reading.proofs.Answered.{pair-posted, parents-few}
+
+-- the matrix at the front of its array, the parents as a part of the bytes
+pub record Parts (s : List ℕ) (r : Sheet) : Type 0 where
+  pub posted : Posted (strainsOf s) (distancesOf s) (parentsOf s)
+  pub strains : r .strains ≡ strainsOf s
+  pub room : r .pairs ≤ length (r .distances)
+  pub size : r .pairs ≡ length (take (r .pairs) (r .distances))
+  pub distances : take (r .pairs) (r .distances) ≡ distancesOf s
+  pub starts : r .parents ≤ r .end
+  pub ends : r .end ≤ length s
+  pub parents : take (r .end - r .parents) (drop (r .parents) s) ≡ parentsOf s
+  pub count : r .end - r .parents ≡ length (parentsOf s)
+
+-- the numerators at the front of theirs, as many as there are parents
+pub record Lengths (s : List ℕ) (r : Sheet) : Type 0 where
+  pub denominator : r .denominator ≡ denominatorOf s
+  pub room : r .edges ≤ length (r .numerators)
+  pub size : r .edges ≡ length (take (r .edges) (r .numerators))
+  pub numerators : take (r .edges) (r .numerators) ≡ numeratorsOf s
+  pub count : r .edges ≡ length (parentsOf s)
+  pub few : r .edges ≤ maxEdges
+
+pub accepted : (count : ℕ) (s : List ℕ) (r : Sheet) → SheetAnswer count s r → r .verdict ≡ Accepted → readNumber count s ≡ 0
+accepted count s r a e = sym (a .number) ∙ ap numberOf e
+
+module _ (count : ℕ) (s : List ℕ) (z : readNumber count s ≡ 0) where
+  behind-form : (pairNumber s orElse test 11 (edgesDiffer count s)) ≡ 0
+  behind-form = orElse-zero (formNumber count s) (pairNumber s orElse test 11 (edgesDiffer count s)) z .1
+
+  pub form-zero : formNumber count s ≡ 0
+  form-zero = orElse-zero (formNumber count s) (pairNumber s orElse test 11 (edgesDiffer count s)) z .0
+
+  pub pair-zero : pairNumber s ≡ 0
+  pair-zero = orElse-zero (pairNumber s) (test 11 (edgesDiffer count s)) behind-form .0
+
+  pub edges-same : edgesDiffer count s ≡ false
+  edges-same = test-zero 10 (edgesDiffer count s) (orElse-zero (pairNumber s) (test 11 (edgesDiffer count s)) behind-form .1)
+
+  pub posted : Posted (strainsOf s) (distancesOf s) (parentsOf s)
+  posted = pair-posted s pair-zero
+
+  few-pairs : pairCount (strainsOf s) ≤ maxPairs
+  few-pairs = pairs-few (strainsOf s) (posted .matrix .few)
+
+  parent-count : verticesOf s - 1 ≡ length (parentsOf s)
+  parent-count = sym (length-table (verticesOf s - 1) _)
+
+  module _ (two : 2 ≤ count) (r : Sheet) (h : Held count s r) where
+    here : Fronted s (startOf s 1) (startOf s 2)
+    here = fronted count s form-zero two (startOf s 1) (startOf s 2) refl refl
+
+    kept : r .distances ≡ padded 0 maxPairs (r .pairs) (distanceAt s)
+    kept = h .distances ∙ ap (λ (k : ℕ). padded 0 maxPairs k (distanceAt s)) (sym (h .pairs))
+
+    edge-count : r .end - r .parents ≡ verticesOf s - 1
+    edge-count = ap₂ _-_ (h .end) (h .parents) ∙ parents-count here
+
+    pub parts : Parts s r
+    parts = record {
+      posted = posted;
+      strains = h .strains;
+      room = front-there 0 maxPairs (r .pairs) (distanceAt s) (r .distances) kept (omega (arith, h .pairs, few-pairs));
+      size = front-length 0 maxPairs (r .pairs) (distanceAt s) (r .distances) kept;
+      distances = front-is 0 maxPairs (r .pairs) (distanceAt s) (r .distances) kept ∙ ap (λ (k : ℕ). table k (distanceAt s)) (h .pairs);
+      starts = rw (h .parents, h .end) (parents-start here);
+      ends = rw (h .end) (here .there);
+      parents = ap₂ (λ (a e : ℕ). take (e - a) (drop a s)) (h .parents) (h .end) ∙ parents-are here;
+      count = edge-count ∙ parent-count;
+    }
+
+-- three records
+module _ (s : List ℕ) (z : readNumber 3 s ≡ 0) (r : Sheet) (h : Held 3 s r) where
+  whole : edgesOf s ≡ verticesOf s - 1
+  whole = eqb-true (edgesOf s) (verticesOf s - 1) (not-false (eqb (edgesOf s) (verticesOf s - 1)) (edges-same 3 s z))
+
+  few : r .edges ≤ maxEdges
+  few = omega (arith, h .edges, whole, parents-few s (pair-zero 3 s z))
+
+  lent : r .numerators ≡ padded (pos 0) maxEdges (r .edges) (numeratorAt s)
+  lent = h .numerators ∙ ap (λ (k : ℕ). padded (pos 0) maxEdges k (numeratorAt s)) (sym (h .edges))
+
+  pub lengths : Lengths s r
+  lengths = record {
+    denominator = h .denominator;
+    room = front-there (pos 0) maxEdges (r .edges) (numeratorAt s) (r .numerators) lent few;
+    size = front-length (pos 0) maxEdges (r .edges) (numeratorAt s) (r .numerators) lent;
+    numerators = front-is (pos 0) maxEdges (r .edges) (numeratorAt s) (r .numerators) lent ∙ ap (λ (k : ℕ). table k (numeratorAt s)) (h .edges);
+    count = h .edges ∙ whole ∙ parent-count 3 s z;
+    few = few;
+  }
+
+-- ---- by the reader's answer
+pub read-parts : (count : ℕ) (s : List ℕ) (r : Sheet) → 2 ≤ count → SheetAnswer count s r → r .verdict ≡ Accepted → Parts s r
+read-parts count s r two a e = let z = accepted count s r a e in parts count s z two r (a .held z)
+
+pub read-lengths : (s : List ℕ) (r : Sheet) → SheetAnswer 3 s r → r .verdict ≡ Accepted → Lengths s r
+read-lengths s r a e = let z = accepted 3 s r a e in lengths s z r (a .held z)
+
+-- ---- what is shown of the parts holds of what the records hold
+pub of-parts : {s : List ℕ} {r : Sheet} → Parts s r → (P : ℕ → List ℕ → List ℕ → Type 0)
+    → P (r .strains) (take (r .pairs) (r .distances)) (take (r .end - r .parents) (drop (r .parents) s)) → P (strainsOf s) (distancesOf s) (parentsOf s)
+of-parts {s} {r} h P p = rw (h .strains, h .distances, h .parents) at p
+
+pub of-lengths : {s : List ℕ} {r : Sheet} → Parts s r → Lengths s r → (P : ℕ → List ℕ → List ℕ → ℕ → List ℤ → Type 0)
+    → P (r .strains) (take (r .pairs) (r .distances)) (take (r .end - r .parents) (drop (r .parents) s)) (r .denominator) (take (r .edges) (r .numerators))
+    → P (strainsOf s) (distancesOf s) (parentsOf s) (denominatorOf s) (numeratorsOf s)
+of-lengths {s} {r} h l P p = rw (h .strains, h .distances, h .parents, l .denominator, l .numerators) at p
+
+-- ---- and the other way
+pub to-parts : {s : List ℕ} {r : Sheet} → Parts s r → (P : ℕ → List ℕ → List ℕ → Type 0) → P (strainsOf s) (distancesOf s) (parentsOf s)
+    → P (r .strains) (take (r .pairs) (r .distances)) (take (r .end - r .parents) (drop (r .parents) s))
+to-parts {s} {r} h P p = rw (h .strains, h .distances, h .parents) p

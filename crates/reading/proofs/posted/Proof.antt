@@ -1,0 +1,31 @@
+-- Where the two counts agree, the matrix may be asked once more before both together.
+use mathlib.Core.Path.{ap, _∙_}
+use Prim.Native.Nat.{ℕ}
+use Rattle.verdict.specs.Number.{_orElse_}
+use Rattle.reading.proofs.Formed.{apart, together}
+use borrow.Author.Needs.{needs}
+use Rattle.reading.proofs.posted.Statement.{statement}
+use Rattle.reading.proofs.posted.Tie as tie
+
+check-matrix-requires : tie.Need-check-matrix-requires
+check-matrix-requires c κs = search needs
+
+or-else-requires : tie.Need-or-else-requires
+or-else-requires c κs = search needs
+
+returns : tie.Need-returns
+returns c = let begun = c .before .before .before in
+    c .or-else .ensures ∙ ap (λ (m : ℕ). m orElse 8) (c .before .check-matrix .ensures)
+    ∙ apart _ _ (begun .before .before .args .distances .now) (begun .before .before .args .parents .now) (c .before .before .if1 .taken)
+
+check-posting-requires : tie.Need-check-posting-requires
+check-posting-requires c κs = search needs
+
+returns-2 : tie.Need-returns-2
+returns-2 c = let begun = c .before .before in
+    c .check-posting .ensures ∙ together _ _ (begun .before .before .args .distances .now) (begun .before .before .args .parents .now) (c .before .if1 .left)
+
+pub posted-spec : {M : Type 1} → statement M
+posted-spec =
+    tie.close
+    (tie.spec check-matrix-requires or-else-requires returns check-posting-requires returns-2)

@@ -1,0 +1,81 @@
+-- Two records have no lengths; of three, K is compared before a numerator is read.
+use mathlib.Core.Path.{_≡_, refl, sym, _∙_}
+use mathlib.Core.List.{List}
+use Prim.Native.Nat.{ℕ, _+_, _*_, _≤_}
+use native.Mathlib.Omega.{arith}
+use lib.ListN.{length}
+use Rattle.endian.specs.Bytes.{number}
+use Rattle.records.specs.Form.{maxSheet}
+use Rattle.reading.proofs.Formed.{lengths-end}
+use Rattle.reading.proofs.Lengthened.{without-lengths, other-count, with-lengths}
+use borrow.Author.Needs.{needs}
+use Rattle.reading.proofs.proposed_lengths.Statement.{statement}
+use Rattle.reading.proofs.proposed_lengths.Tie as tie
+
+abbrev bytes : tie.Else1 → List ℕ
+bytes c = c .before .before .args .s .now
+
+three : (c : tie.Else1) → c .before .before .args .count ≡ 3
+three c = omega arith
+
+ends : (c : tie.Else1)
+    → let at = c .before .before .args .at in
+    (at + 12 + 8 * number 2 (bytes c) (at + 6 + 4) ≤ length (bytes c)) × (length (bytes c) ≤ maxSheet)
+ends c = lengths-end _ (bytes c) (c .before .before .pre .0 .2) (omega arith) _ (c .before .before .pre .0 .3)
+
+no-lengths-requires : tie.Need-no-lengths-requires
+no-lengths-requires c κs = search needs
+
+returns : tie.Need-returns
+returns c = without-lengths _ _ _ (c .before .if1 .taken) refl refl refl (c .no-lengths .ensures)
+
+add-body : tie.Need-add-body
+add-body c = record { fits = omega (arith, ends c) }
+
+add-u16-at : tie.Need-add-u16-at
+add-u16-at c = record { fits = omega (arith, ends c) }
+
+u16-at-requires : tie.Need-u16-at-requires
+u16-at-requires c κs = omega (arith, ends c)
+
+cast-if2 : tie.Need-cast-if2
+cast-if2 c = search needs
+
+no-lengths-requires-2 : tie.Need-no-lengths-requires-2
+no-lengths-requires-2 c κs = search needs
+
+returns-2 : tie.Need-returns-2
+returns-2 c = let read = c .before .before in
+    other-count _ _ _ _ _ (read .before .before .before .pre .0 .3) (read .u16-at .ensures) (read .before .before .before .pre .1 .0) _ (three (read .before)) (c .before .if2 .taken) refl
+
+u32-at-requires : tie.Need-u32-at-requires
+u32-at-requires c κs = omega (arith, ends (c .before .before))
+
+add-numerators : tie.Need-add-numerators
+add-numerators c = record { fits = omega (arith, ends (c .before .before .before)) }
+
+numerators-requires : tie.Need-numerators-requires
+numerators-requires c κs = let read = c .before .before in
+    let k : read .before .before .before .args .edges ≡ number 2 (bytes (read .before)) (read .before .before .before .args .at + 6 + 4) = sym (c .before .if2 .left) ∙ read .u16-at .ensures in
+    (read .before .before .before .pre .1 .1, omega (arith, ends (read .before)))
+
+returns-3 : tie.Need-returns-3
+returns-3 c = let read = c .before .before .before in
+    with-lengths _ _ _ _ _ (read .before .before .before .pre .0 .3) (read .u16-at .ensures) (read .before .before .before .pre .1 .0) _ (three (read .before)) (c .before .before .if2 .left) refl (c .before .u32-at .ensures) refl (c .numerators .ensures)
+
+pub proposed-lengths-spec : {M : Type 1} → statement M
+proposed-lengths-spec =
+    tie.close
+    (tie.spec
+    no-lengths-requires
+    returns
+    add-body
+    add-u16-at
+    u16-at-requires
+    cast-if2
+    no-lengths-requires-2
+    returns-2
+    u32-at-requires
+    add-numerators
+    numerators-requires
+    returns-3)

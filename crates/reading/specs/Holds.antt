@@ -1,0 +1,54 @@
+-- What the records of a sheet hold, as functions of its bytes.
+use mathlib.Core.Bool.{cond}
+use mathlib.Core.List.{List}
+use Prim.Native.Nat.{ℕ, _+_, _-_, _*_}
+use lib.Dec.{ltb}
+use lib.IntN.{ℤ}
+use lib.ListN.{getD}
+use Rattle.exact.specs.Table.{table}
+use Rattle.matrix.specs.Place.{pairCount}
+use Rattle.endian.specs.Bytes.{number, twos}
+use Rattle.records.specs.Form.{bodyAt, startOf}
+
+-- the matrix: N and the distances
+abbrev pub strainsOf : List ℕ → ℕ
+strainsOf s = number 2 s (bodyAt 0)
+
+abbrev pub distanceAt : List ℕ → ℕ → ℕ
+distanceAt s k = number 2 s (bodyAt 0 + 2 + 2 * k)
+
+abbrev pub distancesOf : List ℕ → List ℕ
+distancesOf s = table (pairCount (strainsOf s)) (distanceAt s)
+
+-- the tree, the second record: its own N, V, and the parents
+abbrev pub treeStrainsOf : List ℕ → ℕ
+treeStrainsOf s = number 2 s (bodyAt (startOf s 1))
+
+abbrev pub verticesOf : List ℕ → ℕ
+verticesOf s = number 2 s (bodyAt (startOf s 1) + 2)
+
+abbrev pub parentsAt : List ℕ → ℕ
+parentsAt s = bodyAt (startOf s 1) + 4
+
+abbrev pub parentsOf : List ℕ → List ℕ
+parentsOf s = table (verticesOf s - 1) (λ k. getD s (parentsAt s + k) 0)
+
+-- the lengths, the third: D, K and the numerators
+abbrev pub denominatorOf : List ℕ → ℕ
+denominatorOf s = number 4 s (bodyAt (startOf s 2))
+
+abbrev pub edgesOf : List ℕ → ℕ
+edgesOf s = number 2 s (bodyAt (startOf s 2) + 4)
+
+abbrev pub numeratorAt : List ℕ → ℕ → ℤ
+numeratorAt s k = twos (number 8 s (bodyAt (startOf s 2) + 6 + 8 * k))
+
+abbrev pub numeratorsOf : List ℕ → List ℤ
+numeratorsOf s = table (edgesOf s) (numeratorAt s)
+
+-- D and K of a sheet of so many records: 0 where it has no lengths
+abbrev pub denominatorIn : ℕ → List ℕ → ℕ
+denominatorIn count s = cond (ltb 2 count) (denominatorOf s) 0
+
+abbrev pub edgesIn : ℕ → List ℕ → ℕ
+edgesIn count s = cond (ltb 2 count) (edgesOf s) 0

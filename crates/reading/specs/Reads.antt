@@ -1,0 +1,50 @@
+-- What the reader of a sheet hands over: its number, and, where that is 0, what the records hold; zeros where it is not.
+use mathlib.Core.Path.{_≡_}
+use mathlib.Core.List.{List}
+use Prim.Native.Nat.{ℕ}
+use lib.IntN.{pos}
+use Rattle.exact.specs.Table.{table, padded}
+use Rattle.verdict.specs.Number.{numberOf, test}
+use Rattle.matrix.specs.Limits.{maxPairs}
+use Rattle.matrix.specs.Place.{pairCount}
+use Rattle.trees.specs.Limits.{maxEdges}
+use Rattle.records.specs.Form.{startOf}
+use Rattle.reading.specs.declared.Sheet.{Sheet}
+use Rattle.reading.specs.declared.Proposal.{Proposal}
+use Rattle.reading.specs.Holds.{strainsOf, distanceAt, parentsAt, denominatorIn, edgesIn, numeratorAt}
+use Rattle.reading.specs.Tests.{edgesDiffer, readNumber}
+
+-- the lengths of a sheet of so many records, or none where it has two: D, K, and the numerators, then zeros
+pub record Proposed (count : ℕ) (s : List ℕ) (r : Proposal) : Type 0 where
+  pub number : numberOf (r .verdict) ≡ test 11 (edgesDiffer count s)
+  pub denominator : numberOf (r .verdict) ≡ 0 → r .denominator ≡ denominatorIn count s
+  pub edges : numberOf (r .verdict) ≡ 0 → r .edges ≡ edgesIn count s
+  pub numerators : numberOf (r .verdict) ≡ 0 → r .numerators ≡ padded (pos 0) maxEdges (edgesIn count s) (numeratorAt s)
+
+-- N and the distances, then zeros; where the parents start and end among the bytes; the lengths
+pub record Held (count : ℕ) (s : List ℕ) (r : Sheet) : Type 0 where
+  pub strains : r .strains ≡ strainsOf s
+  pub pairs : r .pairs ≡ pairCount (strainsOf s)
+  pub distances : r .distances ≡ padded 0 maxPairs (pairCount (strainsOf s)) (distanceAt s)
+  pub parents : r .parents ≡ parentsAt s
+  pub end : r .end ≡ startOf s 2
+  pub denominator : r .denominator ≡ denominatorIn count s
+  pub edges : r .edges ≡ edgesIn count s
+  pub numerators : r .numerators ≡ padded (pos 0) maxEdges (edgesIn count s) (numeratorAt s)
+
+-- zeros everywhere
+pub record Blank (r : Sheet) : Type 0 where
+  pub strains : r .strains ≡ 0
+  pub pairs : r .pairs ≡ 0
+  pub distances : r .distances ≡ table maxPairs (λ _. 0)
+  pub parents : r .parents ≡ 0
+  pub end : r .end ≡ 0
+  pub denominator : r .denominator ≡ 0
+  pub edges : r .edges ≡ 0
+  pub numerators : r .numerators ≡ table maxEdges (λ _. pos 0)
+
+-- the whole answer
+pub record SheetAnswer (count : ℕ) (s : List ℕ) (r : Sheet) : Type 0 where
+  pub number : numberOf (r .verdict) ≡ readNumber count s
+  pub held : readNumber count s ≡ 0 → Held count s r
+  pub blank : (readNumber count s ≡ 0 → ⊥) → Blank r

@@ -1,0 +1,192 @@
+// A sheet of bytes, read once. A sheet is three records, one behind the other, and nothing else: the matrix,
+// the tree and the lengths. A sheet without lengths is the first two.
+use matrix::Matrix;
+use records::Layout;
+use tree::Tree;
+use verdict::Reason;
+use verdict::Verdict;
+ghost use mathlib.Core.Path.{_≡_};
+ghost use mathlib.Core.Bool.{not};
+ghost use Prim.Native.Nat.{_+_, _-_, _*_, _≤_};
+ghost use lib.Dec.{eqb};
+ghost use lib.IntN.{pos};
+ghost use lib.ListN.{length};
+ghost use Rattle.exact.specs.Table.{table, padded};
+ghost use Rattle.verdict.specs.Number.{numberOf, test, _orElse_};
+ghost use Rattle.matrix.specs.Limits.{maxPairs};
+ghost use Rattle.matrix.specs.Tests.{matrixNumber};
+ghost use Rattle.trees.specs.Limits.{maxEdges};
+ghost use Rattle.fit.specs.Tests.{postedNumber};
+ghost use Rattle.endian.specs.Bytes.{number, twos};
+ghost use Rattle.records.specs.Form.{maxRecords, startOf, formNumber};
+ghost use Rattle.reading.specs.Holds.{verticesOf};
+ghost use Rattle.reading.specs.Reads.{Proposed, Blank, SheetAnswer};
+
+// What a sheet holds: N and the distances, then zeros; where the parents of its tree start and end among the
+// bytes; D, K and the numerators, then zeros. Without lengths D and K are 0.
+pub struct Sheet {
+    pub verdict: Verdict,
+    pub strains: u32,
+    pub pairs: usize,
+    pub distances: [u16; Matrix::MAX_PAIRS],
+    pub parents: usize,
+    pub end: usize,
+    pub denominator: u32,
+    pub edges: usize,
+    pub numerators: [i64; Tree::MAX_EDGES],
+}
+
+// The lengths of a sheet, and the answer to their count.
+struct Proposal {
+    verdict: Verdict,
+    denominator: u32,
+    edges: usize,
+    numerators: [i64; Tree::MAX_EDGES],
+}
+
+// Zeros, by a function of their own: proofs then carry a name in place of every entry.
+fn no_distances() -> [u16; Matrix::MAX_PAIRS]
+    ensures { λ r. ⌜ r ≡ table maxPairs (λ _. 0) ⌝ }
+{
+    [0; Matrix::MAX_PAIRS]
+}
+
+// The distances that start at `at`, then zeros.
+fn distances(s: &[u8], at: usize, count: usize) -> [u16; Matrix::MAX_PAIRS]
+    requires { ⌜ (count ≤ maxPairs) × (at + 2 * count ≤ length (now s)) ⌝ }
+    ensures { λ r. ⌜ r ≡ padded 0 maxPairs count (λ k. number 2 (now (s .entry)) (at + 2 * k)) ⌝ }
+{
+    let mut held = no_distances();
+    let mut k = 0;
+    while k < count {
+        held[k] = endian::u16_at(s, at + 2 * k);
+        k += 1;
+    }
+    held
+}
+
+// The numerators that start at `at`, then zeros.
+fn numerators(s: &[u8], at: usize, count: usize) -> [i64; Tree::MAX_EDGES]
+    requires { ⌜ (count ≤ maxEdges) × (at + 8 * count ≤ length (now s)) ⌝ }
+    ensures { λ r. ⌜ r ≡ padded (pos 0) maxEdges count (λ k. twos (number 8 (now (s .entry)) (at + 8 * k))) ⌝ }
+{
+    let mut held = lengths::no_lengths();
+    let mut k = 0;
+    while k < count {
+        let x = endian::i64_at(s, at + 8 * k);
+        held[k] = x;
+        k += 1;
+    }
+    held
+}
+
+// 4, 6 to 10: the matrix; 8 where the tree is for other strains; both together.
+fn posted(n: u32, other: u32, distances: &[u16], parents: &[u8]) -> Verdict
+    ensures { λ r. ⌜ numberOf r ≡ (matrixNumber n (now (distances .entry)) orElse test 8 (not (eqb other n)) orElse postedNumber n (now (distances .entry)) (now (parents .entry))) ⌝ }
+{
+    if other != n {
+        let of_matrix = matrix::check_matrix(n, distances);
+        return verdict::or_else(of_matrix, Verdict::Refused(Reason::Vertices));
+    }
+    posting::check_posting(n, distances, parents)
+}
+
+// The lengths of a sheet of the form, which start at `at`, beside a tree of so many edges: 11 where K is another
+// count. A sheet of two records has none.
+fn proposed_lengths(s: &[u8], count: usize, at: usize, edges: usize) -> Proposal
+    requires { ⌜ (2 ≤ count) × (count ≤ maxRecords) × (formNumber count (now s) ≡ 0) × (at ≡ startOf (now s) 2) ⌝ }
+    requires { ⌜ (edges ≡ verticesOf (now s) - 1) × (edges ≤ maxEdges) ⌝ }
+    ensures { λ r. ⌜ Proposed count (now (s .entry)) r ⌝ }
+{
+    if count == 2 {
+        return Proposal {
+            verdict: Verdict::Accepted,
+            denominator: 0,
+            edges: 0,
+            numerators: lengths::no_lengths(),
+        };
+    }
+    let body = at + Layout::HEAD;
+    if endian::u16_at(s, body + 4) as usize != edges {
+        return Proposal {
+            verdict: Verdict::Refused(Reason::Edges),
+            denominator: 0,
+            edges: 0,
+            numerators: lengths::no_lengths(),
+        };
+    }
+    Proposal {
+        verdict: Verdict::Accepted,
+        denominator: endian::u32_at(s, body),
+        edges,
+        numerators: numerators(s, body + 6, edges),
+    }
+}
+
+// A refusal, with zeros everywhere.
+fn refused(reason: Reason) -> Sheet
+    ensures { λ r. ⌜ (r .verdict ≡ Verdict.Refused reason) × Blank r ⌝ }
+{
+    Sheet {
+        verdict: Verdict::Refused(reason),
+        strains: 0,
+        pairs: 0,
+        distances: no_distances(),
+        parents: 0,
+        end: 0,
+        denominator: 0,
+        edges: 0,
+        numerators: lengths::no_lengths(),
+    }
+}
+
+// What a sheet of the form holds: 6 to 11. More strains than a matrix may have are refused before a distance is
+// read, another count than the tree's edges before a numerator is.
+fn held(s: &[u8], count: usize, tree: usize, end: usize) -> Sheet
+    requires { ⌜ (2 ≤ count) × (count ≤ maxRecords) × (formNumber count (now s) ≡ 0) × (tree ≡ startOf (now s) 1) × (end ≡ startOf (now s) 2) ⌝ }
+    ensures { λ r. ⌜ SheetAnswer count (now (s .entry)) r ⌝ }
+{
+    let n = endian::u16_at(s, Layout::HEAD) as u32;
+    if n as usize > Matrix::MAX_STRAINS {
+        return refused(Reason::Strains);
+    }
+    let pairs = matrix::pair_count(n) as usize;
+    let measured = distances(s, Layout::HEAD + 2, pairs);
+    let body = tree + Layout::HEAD;
+    let of_tree = endian::u16_at(s, body) as u32;
+    let parents = body + 4;
+    let of_pair = posted(n, of_tree, &measured[..pairs], &s[parents..end]);
+    if let Verdict::Refused(reason) = of_pair {
+        return refused(reason);
+    }
+    let proposed = proposed_lengths(s, count, end, end - parents);
+    let of_lengths = proposed.verdict;
+    if let Verdict::Refused(reason) = of_lengths {
+        return refused(reason);
+    }
+    let lengths = proposed.numerators;
+    Sheet {
+        verdict: Verdict::Accepted,
+        strains: n,
+        pairs,
+        distances: measured,
+        parents,
+        end,
+        denominator: proposed.denominator,
+        edges: proposed.edges,
+        numerators: lengths,
+    }
+}
+
+// What a sheet of so many records holds, three or, without lengths, two: 1 to 11, the first that applies.
+pub fn read(s: &[u8], count: usize) -> Sheet
+    requires { ⌜ (2 ≤ count) × (count ≤ maxRecords) ⌝ }
+    ensures { λ r. ⌜ SheetAnswer count (now (s .entry)) r ⌝ }
+{
+    let laid = records::records(s, count);
+    let of_form = laid.verdict;
+    match of_form {
+        Verdict::Refused(reason) => refused(reason),
+        Verdict::Accepted => held(s, count, laid.starts[1], laid.starts[2]),
+    }
+}

@@ -1,0 +1,95 @@
+-- The form of a sheet: records one behind the other, each with a four-byte length of its body, a two-byte kind and the body.
+-- 1 matrix: N (2), distances (2 each). 2 tree: N (2), V (2), parents (1 each). 3 lengths: D (4), K (2), numerators (8 each).
+-- A sheet has all three; one without lengths has the first two.
+use mathlib.Core.Bool.{Bool, cond, not, _&&_, _||_}
+use mathlib.Core.List.{List}
+use Prim.Native.Nat.{ℕ, zero, suc, _+_, _-_, _*_}
+use lib.Dec.{eqb, ltb}
+use lib.ListN.{length}
+use Rattle.verdict.specs.Number.{test, _orElse_}
+use Rattle.matrix.specs.Limits.{maxPairs}
+use Rattle.trees.specs.Limits.{maxEdges}
+use Rattle.endian.specs.Bytes.{number}
+
+-- the most records of a sheet
+abbrev pub maxRecords : ℕ
+maxRecords = 3
+
+-- the bytes of a record's head
+abbrev pub headSize : ℕ
+headSize = 6
+
+-- the longest sheet that can be accepted: three heads, and the bodies of the largest matrix, tree and lengths
+abbrev pub maxSheet : ℕ
+maxSheet = maxRecords * headSize + (2 + 2 * maxPairs) + (4 + maxEdges) + (6 + 8 * maxEdges)
+
+-- the kind that is due for record k, counted from 0
+abbrev pub kindOf : ℕ → ℕ
+kindOf k = k + 1
+
+-- of the record that starts at a place: the length of its body, its kind, where its body starts, and where it ends
+abbrev pub sizeAt : List ℕ → ℕ → ℕ
+sizeAt s at = number 4 s at
+
+abbrev pub kindAt : List ℕ → ℕ → ℕ
+kindAt s at = number 2 s (at + 4)
+
+abbrev pub bodyAt : ℕ → ℕ
+bodyAt at = at + headSize
+
+abbrev pub endAt : List ℕ → ℕ → ℕ
+endAt s at = bodyAt at + sizeAt s at
+
+-- a body begins with counts: N; N and V; D and K. So many bytes of them:
+abbrev pub countsSize : ℕ → ℕ
+countsSize kind = 2 * kind
+
+-- the last count, N, V or K, says how much follows
+abbrev pub countAt : List ℕ → ℕ → ℕ → ℕ
+countAt s at kind = number 2 s (bodyAt at + (countsSize kind - 2))
+
+-- the length of a body by that count
+abbrev pub bodyLength : ℕ → ℕ → ℕ
+bodyLength kind count =
+    cond (eqb kind 1) (2 + count * (count - 1)) (cond (eqb kind 2) (4 + (count - 1)) (6 + 8 * count))
+
+-- 2: fewer than 6 bytes left for the head, or fewer left for the body than its length says
+abbrev pub headCut : List ℕ → ℕ → Bool
+headCut s at = ltb (length s) (bodyAt at)
+
+abbrev pub bodyCut : List ℕ → ℕ → Bool
+bodyCut s at = ltb (length s) (endAt s at)
+
+-- 4: the body too short for its counts, V = 0, or its length not as the counts say
+abbrev pub noVertices : ℕ → ℕ → Bool
+noVertices kind count = eqb kind 2 && eqb count 0
+
+abbrev pub countsOut : List ℕ → ℕ → ℕ → Bool
+countsOut s at kind =
+    ltb (sizeAt s at) (countsSize kind)
+    || (noVertices kind (countAt s at kind) || not (eqb (sizeAt s at) (bodyLength kind (countAt s at kind))))
+
+-- one record: 2 and 3 for its head, then 4
+abbrev pub recordNumber : List ℕ → ℕ → ℕ → ℕ
+recordNumber s at kind =
+    test 2 (headCut s at)
+    orElse test 2 (bodyCut s at)
+    orElse test 3 (not (eqb (kindAt s at) kind))
+    orElse test 4 (countsOut s at kind)
+
+-- where record k starts, counted from 0: behind the one before it
+unfoldable pub startOf : List ℕ → ℕ → ℕ
+startOf s zero = 0
+startOf s (suc k) = endAt s (startOf s k)
+
+-- 2, 3, 4 for the first k records, in turn
+unfoldable pub recordsNumber : List ℕ → ℕ → ℕ
+recordsNumber s zero = 0
+recordsNumber s (suc k) = recordsNumber s k orElse recordNumber s (startOf s k) (kindOf k)
+
+-- the form of a sheet of so many records: 1; 2, 3, 4 for each in turn; 5
+abbrev pub formNumber : ℕ → List ℕ → ℕ
+formNumber count s =
+    test 1 (ltb maxSheet (length s))
+    orElse recordsNumber s count
+    orElse test 5 (ltb (startOf s count) (length s))

@@ -1,0 +1,86 @@
+-- What keeps the numbers of a fit within 64 bits, and that the table of rounded lengths gives R.
+-- `f-fits`, `r-fits`: demand 3's ranges. `ready-rounded`: the rounded lengths can be summed over. `r-same`, `rounded-is`: the
+-- table behind whose edges stand zeros has the sums and the entries of the definition.
+use mathlib.Core.Path.{_≡_, sym, _∙_, ap, subst}
+use mathlib.Core.Bool.{Bool, cond}
+use mathlib.Core.List.{List}
+use Prim.Native.Nat.{ℕ, _*_, _≤_, _<_}
+use native.Mathlib.Nat.{mul-le-mul, mul-le-mul-right}
+use native.Mathlib.Omega.{arith}
+use borrow.Author.Tests.{lt-ltb}
+use lib.Dec.{ltb}
+use lib.IntN.{ℤ, pos, natAbs, _-ℤ_, _*ℤ_}
+use lib.ListN.{length}
+use Rattle.exact.specs.Fits.{Fits63}
+use Rattle.exact.specs.Sum.{sum, pairs}
+use Rattle.exact.specs.Table.{table, entryOf}
+use Rattle.exact.specs.LeastSquares.{sq, sumR}
+use Rattle.exact.specs.Nearest.{nearest}
+use Rattle.exact.proofs.Fill.{length-table, getD-table, table-cong}
+use Rattle.exact.proofs.LeastSquares.{path-cong}
+use Rattle.exact.proofs.Order.{≤-trans}
+use Rattle.exact.proofs.Sweep.{sum-abs}
+use Rattle.exact.proofs.Sum.{pairs-sums, S-cong}
+use Rattle.matrix.specs.Limits.{maxPairs}
+use Rattle.matrix.specs.Place.{distance, pairCount}
+use Rattle.matrix.proofs.Places.{pairs-few}
+use Rattle.trees.specs.Limits.{maxEdges}
+use Rattle.lengths.specs.Limits.{maxDenominator, maxNumerator}
+use Rattle.fit.specs.Quantities.{partsOf, roundedOf, treeLength, fOf, rOf}
+use Rattle.fit.specs.Stands.{Posted, Stands}
+use Rattle.fit.proofs.Demand3.{least, r-range}
+use Rattle.fit.proofs.Ranges.{bounds, rounded-range}
+use Rattle.paths.specs.Standing.{Standing}
+use Rattle.pairs.specs.Ready.{Ready}
+use Rattle.pairs.proofs.Lent as lent
+use Rattle.reporting.specs.Answers.{maxTreeLength}
+
+module _ (N : ℕ) (ds ps : List ℕ) (D : ℕ) (ns : List ℤ) (s : Stands N ds ps D ns) where
+  pub posted : Posted N ds ps
+  posted = record { matrix = s .matrix; tree = s .tree }
+
+  pub edges-few : length ps ≤ maxEdges
+  edges-few = lent.few-edges (s .tree)
+
+  pub mean-fits : D * pairCount N ≤ maxDenominator * maxPairs
+  mean-fits = mul-le-mul {n₂ = maxDenominator} {m₂ = maxPairs} (s .lengths .most) (pairs-few N (s .matrix .few))
+
+  pub total-near : natAbs (treeLength ns) ≤ maxTreeLength
+  total-near = let few : length ns ≤ maxEdges = omega (arith, s .lengths .whole, edges-few) in
+      omega (arith, sum-abs (length ns) maxNumerator (entryOf ns) (s .lengths .near), mul-le-mul-right maxNumerator few)
+
+  pub total-is : sum (length ps) (entryOf ns) ≡ treeLength ns
+  total-is = ap (λ (k : ℕ). sum k (entryOf ns)) (sym (s .lengths .whole))
+
+  pub f-fits : Fits63 (fOf N ds ps D ns)
+  f-fits = record { low = least N ds ps D ns s .f-low; high = ≤-trans (least N ds ps D ns s .f-high) (record { le = tt }) }
+
+  -- the table of rounded lengths, zeros behind its edges
+  module _ (ms : List ℤ) (e : ms ≡ table maxEdges (λ v. cond (ltb v (length ps)) (nearest D (entryOf ns v)) (pos 0))) where
+    entry-is : (v : ℕ) → v < length ps → entryOf ms v ≡ roundedOf D ns v
+    entry-is v h =
+        ap (λ (x : List ℤ). entryOf x v) e
+        ∙ getD-table maxEdges (λ u. cond (ltb u (length ps)) (nearest D (entryOf ns u)) (pos 0)) (pos 0) v (omega (arith, edges-few))
+        ∙ ap (λ c. cond c (nearest D (entryOf ns v)) (pos 0)) (lt-ltb v (length ps) h)
+
+    pub ready-rounded : {cs : List ℕ} → Standing N (length ps) ps cs → Ready N (length ps) 1000 ds ps cs ms
+    ready-rounded w = record {
+      standing = w;
+      one = omega arith;
+      most = omega arith;
+      room = omega (arith, s .matrix .whole);
+      near = lent.near (s .matrix);
+      small = record {
+        room = omega (arith, edges-few, ap length e, length-table maxEdges (λ u. cond (ltb u (length ps)) (nearest D (entryOf ns u)) (pos 0)));
+        near = λ v h. omega (arith, ap natAbs (entry-is v h), rounded-range (bounds (s .matrix) (s .lengths)) (partsOf ps) v h);
+      };
+    }
+
+    pub r-same : sumR (pairs N) (length ps) (partsOf ps) (distance N ds) (entryOf ms) ≡ rOf N ds ps D ns
+    r-same = S-cong (pairs-sums N) (λ p. ap (λ (z : ℤ). sq (pos 1000 *ℤ distance N ds p -ℤ z)) (path-cong (length ps) (partsOf ps) (entryOf ms) (roundedOf D ns) entry-is p))
+
+    pub r-fits : Fits63 (sumR (pairs N) (length ps) (partsOf ps) (distance N ds) (entryOf ms))
+    r-fits = let (low, high) = r-range N ds ps D ns s in subst Fits63 (sym r-same) (record { low = low; high = ≤-trans high (record { le = tt }) })
+
+    pub rounded-is : (after : List ℤ) → after ≡ table (length ps) (entryOf ms) → after ≡ table (length ps) (roundedOf D ns)
+    rounded-is after f = f ∙ table-cong (pos 0) (length ps) (entryOf ms) (roundedOf D ns) entry-is

@@ -1,0 +1,64 @@
+-- What the report hands back.
+use mathlib.Core.Path.{_≡_}
+use mathlib.Core.List.{List}
+use Prim.Native.Nat.{ℕ, _*_, _≤_}
+use lib.IntN.{ℤ, pos, natAbs}
+use lib.ListN.{length}
+use Rattle.exact.specs.Table.{table}
+use Rattle.verdict.specs.Number.{numberOf, test, _orElse_}
+use Rattle.matrix.specs.Place.{pairCount}
+use Rattle.trees.specs.Limits.{maxEdges}
+use Rattle.lengths.specs.Limits.{maxNumerator}
+use Rattle.fit.specs.Quantities.{roundedOf, treeLength, fOf, rOf, hOf}
+use Rattle.fit.specs.Stands.{Stands, Least}
+use Rattle.fit.specs.Tests.{bufferOut, proposalNumber, reportNumber}
+use Rattle.reporting.specs.declared.FitReport.{FitReport}
+
+-- no tree length is farther from 0, over its denominator
+abbrev pub maxTreeLength : ℕ
+maxTreeLength = maxEdges * maxNumerator
+
+-- the numbers of an accepted fit, demand 2 and demand 3 of it
+pub record Reported (N : ℕ) (ds ps : List ℕ) (D : ℕ) (ns : List ℤ) (after : List ℤ) (x : FitReport) : Type 0 where
+  pub strains : x .strains ≡ N
+  pub edges : x .edges ≡ length ps
+  pub denominator : x .denominator ≡ D
+  pub total : x .length ≡ treeLength ns
+  pub f : x .f ≡ fOf N ds ps D ns
+  pub r : x .r ≡ rOf N ds ps D ns
+  pub h : x .h ≡ hOf N ps
+  -- the mean square is F over D·N(N-1)/2
+  pub mean : x .mean ≡ pos (D * pairCount N)
+  pub rounded : after ≡ table (length ps) (roundedOf D ns)
+  pub stands : Stands N ds ps D ns
+  pub least : Least N ds ps D ns
+  pub near : natAbs (treeLength ns) ≤ maxTreeLength
+
+-- nothing is reported
+pub record Silent (x : FitReport) : Type 0 where
+  pub strains : x .strains ≡ 0
+  pub edges : x .edges ≡ 0
+  pub denominator : x .denominator ≡ 0
+  pub total : x .length ≡ pos 0
+  pub f : x .f ≡ pos 0
+  pub r : x .r ≡ pos 0
+  pub h : x .h ≡ pos 0
+  pub mean : x .mean ≡ pos 0
+
+-- a report of the number k: the numbers and the rounded lengths where k is 0, otherwise nothing and the buffer as it was
+pub record Report (k N : ℕ) (ds ps : List ℕ) (D : ℕ) (ns before after : List ℤ) (x : FitReport) : Type 0 where
+  pub number : numberOf (x .verdict) ≡ k
+  pub reported : k ≡ 0 → Reported N ds ps D ns after x
+  pub silent : (k ≡ 0 → ⊥) → Silent x
+  pub kept : (k ≡ 0 → ⊥) → after ≡ before
+
+-- of lengths beside a matrix and a tree that pass: 11 to 15
+abbrev pub proposalReportNumber : ℕ → List ℕ → List ℕ → ℕ → List ℤ → ℕ → ℕ
+proposalReportNumber N ds ps D ns size = proposalNumber N ds ps D ns orElse test 15 (bufferOut size (length ps))
+
+abbrev pub ProposalReport : (N : ℕ) → (ds ps : List ℕ) → (D : ℕ) → (ns before after : List ℤ) → FitReport → Type 0
+ProposalReport N ds ps D ns before after x = Report (proposalReportNumber N ds ps D ns (length before)) N ds ps D ns before after x
+
+-- of all that is lent: 4, 6 to 15
+abbrev pub ReportAnswer : (N : ℕ) → (ds ps : List ℕ) → (D : ℕ) → (ns before after : List ℤ) → FitReport → Type 0
+ReportAnswer N ds ps D ns before after x = Report (reportNumber N ds ps D ns (length before)) N ds ps D ns before after x

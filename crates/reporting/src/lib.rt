@@ -1,0 +1,122 @@
+// The report of a fit, over lent slices: its numbers, and its rounded lengths in a lent buffer. A refusal reports nothing
+// and leaves the buffer as it was.
+use verdict::Reason;
+use verdict::Verdict;
+ghost use mathlib.Core.Path.{_≡_};
+ghost use lib.ListN.{length};
+ghost use Rattle.fit.specs.Stands.{Posted, Stands};
+ghost use Rattle.reporting.specs.Answers.{Reported, Silent, ProposalReport, ReportAnswer};
+
+// The numbers of an accepted fit; of a refused one the verdict, and zeros. The tree length is length / denominator, the
+// sum of squares f / denominator, the mean square f / mean.
+pub struct FitReport {
+    pub verdict: Verdict,
+    pub strains: u32,
+    pub edges: usize,
+    pub denominator: u32,
+    pub length: i64,
+    pub f: i64,
+    pub r: i64,
+    pub h: i64,
+    pub mean: i64,
+}
+
+// The report of a refusal: its verdict, and nothing more.
+pub fn silent(reason: Reason) -> FitReport
+    ensures { λ r. ⌜ (r .verdict ≡ Verdict.Refused reason) × Silent r ⌝ }
+{
+    FitReport {
+        verdict: Verdict::Refused(reason),
+        strains: 0,
+        edges: 0,
+        denominator: 0,
+        length: 0,
+        f: 0,
+        r: 0,
+        h: 0,
+        mean: 0,
+    }
+}
+
+// The numbers of lengths that fit, with the rounded lengths in the buffer. That they fit is what keeps F and R within
+// 64 bits.
+fn numbered(
+    n: u32,
+    distances: &[u16],
+    parents: &[u8],
+    d: u32,
+    numerators: &[i64],
+    rounded: &mut [i64],
+) -> FitReport
+    requires { ⌜ Stands n (now distances) (now parents) d (now numerators) ⌝ }
+    requires { ⌜ length (now rounded) ≡ length (now parents) ⌝ }
+    ensures { λ r. ⌜ r .verdict ≡ Verdict.Accepted ⌝ }
+    ensures { λ r. ⌜ Reported n (now (distances .entry)) (now (parents .entry)) d (now (numerators .entry)) (now (rounded .exit)) r ⌝ }
+{
+    let strains = n as usize;
+    let edges = parents.len();
+    let masks = clusters::clusters(strains, parents);
+    let thousandths = fit_numbers::rounded(edges, d, numerators);
+    let f = fit_numbers::sum_f(strains, edges, d, distances, parents, &masks, numerators);
+    let squares = fit_numbers::sum_squares(
+        strains,
+        edges,
+        distances,
+        parents,
+        &masks,
+        &thousandths,
+    );
+    let length = fit_numbers::total(edges, numerators);
+    tables::copy_out(edges, &thousandths, rounded);
+    FitReport {
+        verdict: Verdict::Accepted,
+        strains: n,
+        edges,
+        denominator: d,
+        length,
+        f,
+        r: squares.r,
+        h: squares.h,
+        mean: d as i64 * matrix::pair_count(n) as i64,
+    }
+}
+
+// The report of lengths beside a matrix and a tree that pass: 11 to 15, the first that applies.
+pub fn report_proposal(
+    n: u32,
+    distances: &[u16],
+    parents: &[u8],
+    d: u32,
+    numerators: &[i64],
+    rounded: &mut [i64],
+) -> FitReport
+    requires { ⌜ Posted n (now distances) (now parents) ⌝ }
+    ensures { λ r. ⌜ ProposalReport n (now (distances .entry)) (now (parents .entry)) d (now (numerators .entry)) (now (rounded .entry)) (now (rounded .exit)) r ⌝ }
+{
+    let found = judging::judge_proposal(n, distances, parents, d, numerators);
+    if let Verdict::Refused(reason) = found {
+        return silent(reason);
+    }
+    if rounded.len() != parents.len() {
+        return silent(Reason::Buffer);
+    }
+    numbered(n, distances, parents, d, numerators, rounded)
+}
+
+// The report: 4, 6 to 15, the first that applies.
+pub fn report(
+    n: u32,
+    distances: &[u16],
+    parents: &[u8],
+    d: u32,
+    numerators: &[i64],
+    rounded: &mut [i64],
+) -> FitReport
+    ensures { λ r. ⌜ ReportAnswer n (now (distances .entry)) (now (parents .entry)) d (now (numerators .entry)) (now (rounded .entry)) (now (rounded .exit)) r ⌝ }
+{
+    let posted = posting::check_posting(n, distances, parents);
+    if let Verdict::Refused(reason) = posted {
+        return silent(reason);
+    }
+    report_proposal(n, distances, parents, d, numerators, rounded)
+}

@@ -1,0 +1,16 @@
+pub mod Around
+pub mod BySplits
+pub mod Children
+pub mod Crossing
+pub mod Degrees
+pub mod Equations
+pub mod Quartet
+pub mod Ranges
+pub mod Resolved
+pub mod Sets
+pub mod Sizes
+pub mod Star
+pub mod Values
+pub mod Reduced
+pub mod Steps
+pub mod Fitted

@@ -1,0 +1,133 @@
+-- A matrix and a resolved tree that pass: the split sums are in range, so the lengths by them are the tree's own, these are a fit
+-- (`direct`), and their rounding can be summed over (`ready-rounded`, `r-within`).
+use mathlib.Core.Path.{_≡_, sym, _∙_, ap, ap₂, subst}
+use mathlib.Core.Bool.{Bool, false, cond}
+use mathlib.Core.List.{List, []}
+use Prim.Native.Nat.{ℕ, _≤_, _<_}
+use native.Mathlib.Omega.{arith}
+use borrow.Author.Tests.{lt-ltb}
+use lib.IntN.{ℤ, pos, _-ℤ_, _*ℤ_, natAbs}
+use lib.ListN.{length, getD}
+use Rattle.exact.specs.Order.{_≤ᶻ_, Within}
+use Rattle.exact.specs.Sum.{pairs}
+use Rattle.exact.specs.Table.{table, entryOf}
+use Rattle.exact.specs.Nearest.{nearest}
+use Rattle.exact.specs.LeastSquares.{sq, sumR}
+use Rattle.exact.specs.Fits.{Fits63}
+use Rattle.exact.specs.Fraction.{lowestTop, lowestBottom}
+use Rattle.exact.proofs.Divisors.{lowest-is}
+use Rattle.exact.proofs.Fill.{length-table, getD-table, table-cong}
+use Rattle.exact.proofs.Order.{nn-pos, pos-≤, ≤-trans, le-by}
+use Rattle.exact.proofs.Quote.{by-ring, quote}
+use Rattle.exact.proofs.Sum.{pairs-sums, S-cong}
+use Rattle.exact.proofs.LeastSquares.{path-cong}
+use Rattle.exact.proofs.Sign.{within→abs}
+use Rattle.matrix.specs.Limits.{maxDistance}
+use Rattle.matrix.specs.Place.{place, distance}
+use Rattle.trees.specs.Limits.{maxEdges}
+use Rattle.trees.specs.Chain.{parentOf, partsPair}
+use Rattle.trees.specs.Allowed.{Allowed}
+use Rattle.fit.specs.Stands.{Posted}
+use Rattle.paths.specs.Standing.{Standing}
+use Rattle.pairs.specs.Ready.{Ready}
+use Rattle.pairs.proofs.Lent.{near, few-edges}
+use Rattle.tables.specs.Answers.{SplitTable}
+use Rattle.resolution.specs.Children.{Resolved}
+use Rattle.resolution.specs.Splits.{splitAt, maxSplit, Gathered, SplitSums, lengthBy}
+use Rattle.resolution.specs.Tests.{unresolved}
+use Rattle.resolution.specs.Lengths.{lengthOf, topOf, bottomOf, thousandthOf, squareOf, Direct}
+use Rattle.resolution.proofs.BySplits.{edge-positive}
+use Rattle.resolution.proofs.Degrees.{resolved}
+use Rattle.resolution.proofs.Ranges.{split-nn, split-le}
+use Rattle.resolution.proofs.Reduced.{Unreduced, unreduced, lowest-at}
+use Rattle.resolution.proofs.Fitted.{rounded-small, r-fits, in-lowest, den-most, meets-all, is-minimum, is-rounding}
+use Rattle.neighbours.specs.Listed.{Listed}
+use Rattle.edge_lengths.specs.Known.{Known}
+use Rattle.edge_lengths.specs.Tables.{Lowered}
+
+module _ (N : ℕ) (ds ps : List ℕ) (posted : Posted N ds ps) (passed : unresolved N ps ≡ false) where
+  abbrev K : ℕ
+  K = length ps
+
+  abbrev par : ℕ → ℕ
+  par = parentOf ps
+
+  abbrev d : ℕ × ℕ → ℤ
+  d = distance N ds
+
+  ok : Allowed N K par
+  ok = posted .tree
+
+  pub res : Resolved N K par
+  res = resolved N K par passed
+
+  range : (p : ℕ × ℕ) → (pos 0 ≤ᶻ d p) × (d p ≤ᶻ pos maxDistance)
+  range p = (nn-pos (getD ds (place N (p .0) (p .1)) 0), pos-≤ (near (posted .matrix) (place N (p .0) (p .1))))
+
+  pub direct : Direct N ds ps
+  direct = record {
+    lowest = in-lowest N K par ok res d range;
+    most = den-most N K par ok res d range;
+    fits = λ D n c. record {
+      equations = meets-all N K par ok res d range D n c;
+      minimum = is-minimum N K par ok res d range D n c;
+      rounding = is-rounding N K par ok res d range D n c;
+    };
+  }
+
+  -- what `split` handed over
+  module _ (sums : List ℤ) (is : SplitTable N ds ps sums) where
+    pub splits : SplitSums N K par sums
+    splits = record { distances = d; range = range; is = is .entries }
+
+    gathered : Gathered K sums
+    gathered = record { near = λ v l. subst (λ z. natAbs z ≤ maxSplit) (sym (is .entries v l)) (within→abs maxSplit (splitAt N par d v) (within v)) }
+      where
+        within : (v : ℕ) → Within (pos maxSplit) (splitAt N par d v)
+        within v = record { low = ≤-trans (le-by (nn-pos maxSplit) (by-ring [] (search quote depth 20) tt)) (split-nn N d range par v); high = split-le N d range (ok .few) par v }
+
+    pub known : (cs children : List ℕ) → Standing N K ps cs → Listed K par children → Known N K ps cs children sums
+    known cs children s l = record { standing = s; resolved = res; listed = l; gathered = gathered }
+
+    -- the lengths by split sums are the tree's own
+    own : (v : ℕ) → v < K → (lowestTop (lengthBy N K par (entryOf sums) v) ≡ topOf N ds ps v) × (lowestBottom (lengthBy N K par (entryOf sums) v) ≡ bottomOf N ds ps v)
+    own v l = lowest-at (lengthBy N K par (entryOf sums) v) (lengthOf N ds ps v) (facts v l) _ _ (lowest-is (lengthBy N K par (entryOf sums) v) (facts v l .some)) (edge-positive N K par ok res d v l)
+      where
+        facts : (v : ℕ) → v < K → Unreduced (lengthBy N K par (entryOf sums) v) (lengthOf N ds ps v)
+        facts v l = unreduced N K par ok res d range (entryOf sums) (is .entries) v l
+
+    -- what `fill` did
+    module _ (ns : List ℤ) (es : List ℕ) (ms : List ℤ) (w : Lowered K (lengthBy N K par (entryOf sums)) ns es ms) where
+      pub tops-are : ns ≡ table K (topOf N ds ps)
+      tops-are = w .tops ∙ table-cong (pos 0) K _ _ (λ v l. own v l .0)
+
+      pub bottoms-are : es ≡ table K (bottomOf N ds ps)
+      bottoms-are = w .bottoms ∙ table-cong 0 K _ _ (λ v l. own v l .1)
+
+      entry-is : (v : ℕ) → v < K → entryOf ms v ≡ thousandthOf N ds ps v
+      entry-is v h = ap (λ (x : List ℤ). entryOf x v) (w .rounded)
+          ∙ getD-table maxEdges _ (pos 0) v (omega (arith, few-edges ok))
+          ∙ ap (λ c. cond c (nearest (lowestBottom (lengthBy N K par (entryOf sums) v)) (lowestTop (lengthBy N K par (entryOf sums) v))) (pos 0)) (lt-ltb v K h)
+          ∙ ap₂ nearest (own v h .1) (own v h .0)
+
+      pub ready-rounded : (cs : List ℕ) → Standing N K ps cs → Ready N K 1000 ds ps cs ms
+      ready-rounded cs s = record {
+        standing = s;
+        one = omega arith;
+        most = omega arith;
+        room = omega (arith, posted .matrix .whole);
+        near = near (posted .matrix);
+        small = record {
+          room = omega (arith, few-edges ok, ap length (w .rounded) ∙ length-table maxEdges _);
+          near = λ v h. omega (arith, ap natAbs (entry-is v h), rounded-small N K par ok res d range v h);
+        };
+      }
+
+      pub r-same : sumR (pairs N) K (partsPair par) d (entryOf ms) ≡ squareOf N ds ps
+      r-same = S-cong (pairs-sums N) (λ p. ap (λ (z : ℤ). sq (pos 1000 *ℤ d p -ℤ z)) (path-cong K (partsPair par) (entryOf ms) (thousandthOf N ds ps) entry-is p))
+
+      pub r-within : Fits63 (sumR (pairs N) K (partsPair par) d (entryOf ms))
+      r-within = subst Fits63 (sym r-same) (r-fits N K par ok res d range)
+
+      pub rounded-is : (after : List ℤ) → after ≡ table K (entryOf ms) → after ≡ table K (thousandthOf N ds ps)
+      rounded-is after f = f ∙ table-cong (pos 0) K (entryOf ms) (thousandthOf N ds ps) entry-is

@@ -1,0 +1,4 @@
+pub mod Answering
+pub mod Chosen
+pub mod Settled
+pub mod SheetA

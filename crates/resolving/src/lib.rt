@@ -1,0 +1,147 @@
+// Resolved trees fitted with no proposal: where every inner vertex has degree three, each length comes
+// from averages of distances between subtrees, as a fraction in lowest terms with a denominator of its own.
+use verdict::Reason;
+use verdict::Verdict;
+ghost use mathlib.Core.Path.{_≡_};
+ghost use mathlib.Core.Bool.{false};
+ghost use lib.ListN.{length};
+ghost use Rattle.verdict.specs.Number.{numberOf, test};
+ghost use Rattle.trees.specs.Chain.{parentOf};
+ghost use Rattle.trees.specs.Allowed.{Allowed};
+ghost use Rattle.fit.specs.Stands.{Posted};
+ghost use Rattle.resolution.specs.Tests.{unresolved, buffersOut, directNumber};
+ghost use Rattle.resolving.specs.Answers.{Resolves, DirectAnswer, LengthsAnswer};
+
+// R and H of a resolved tree's fit; of a refusal the verdict, and zeros.
+pub struct DirectFit {
+    pub verdict: Verdict,
+    pub r: i64,
+    pub h: i64,
+}
+
+// The lengths of a resolved tree in the three buffers, and their R and H. That they are a fit is what
+// keeps R within 64 bits.
+pub fn resolve(
+    n: u32,
+    distances: &[u16],
+    parents: &[u8],
+    numerators: &mut [i64],
+    denominators: &mut [u32],
+    rounded: &mut [i64],
+) -> DirectFit
+    requires { ⌜ Posted n (now distances) (now parents) ⌝ }
+    requires { ⌜ unresolved n (now parents) ≡ false ⌝ }
+    requires { ⌜ (length (now numerators) ≡ length (now parents)) × (length (now denominators) ≡ length (now parents)) × (length (now rounded) ≡ length (now parents)) ⌝ }
+    ensures { λ r. ⌜ r .verdict ≡ Verdict.Accepted ⌝ }
+    ensures { λ r. ⌜ Resolves n (now (distances .entry)) (now (parents .entry)) (now (numerators .exit)) (now (denominators .exit)) (now (rounded .exit)) r ⌝ }
+{
+    let strains = n as usize;
+    let edges = parents.len();
+    let masks = clusters::clusters(strains, parents);
+    let sums = tables::split(strains, distances, parents, &masks);
+    let children = neighbours::child_table(strains, parents);
+    let worked = edge_lengths::fill(
+        strains,
+        parents,
+        &masks,
+        &children,
+        &sums,
+        numerators,
+        denominators,
+    );
+    let squares = fit_numbers::sum_squares(strains, edges, distances, parents, &masks, &worked);
+    tables::copy_out(edges, &worked, rounded);
+    DirectFit {
+        verdict: Verdict::Accepted,
+        r: squares.r,
+        h: squares.h,
+    }
+}
+
+// 25: some inner vertex is not of degree three.
+pub fn check_resolved(n: u32, parents: &[u8]) -> Verdict
+    requires { ⌜ Allowed n (length (now parents)) (parentOf (now parents)) ⌝ }
+    ensures { λ r. ⌜ numberOf r ≡ test 25 (unresolved n (now (parents .entry))) ⌝ }
+{
+    if tree::some_children_out(n as usize, parents, 0) {
+        return Verdict::Refused(Reason::Unresolved);
+    }
+    Verdict::Accepted
+}
+
+// 15: some of three buffers of a, b and c entries does not have one for each edge.
+fn check_buffers(edges: usize, a: usize, b: usize, c: usize) -> Verdict
+    ensures { λ r. ⌜ numberOf r ≡ test 15 (buffersOut edges a b c) ⌝ }
+{
+    if a != edges {
+        return Verdict::Refused(Reason::Buffer);
+    }
+    if b != edges {
+        return Verdict::Refused(Reason::Buffer);
+    }
+    if c != edges {
+        return Verdict::Refused(Reason::Buffer);
+    }
+    Verdict::Accepted
+}
+
+// What a matrix and a tree are asked before the fit, with buffers of a, b and c entries: 4, 6 to 10, 25, 15, the first that
+// applies.
+fn check_direct(n: u32, distances: &[u16], parents: &[u8], a: usize, b: usize, c: usize) -> Verdict
+    ensures { λ r. ⌜ numberOf r ≡ directNumber n (now (distances .entry)) (now (parents .entry)) a b c ⌝ }
+{
+    let posted = posting::check_posting(n, distances, parents);
+    if let Verdict::Refused(reason) = posted {
+        return Verdict::Refused(reason);
+    }
+    let resolved = check_resolved(n, parents);
+    let lent = check_buffers(parents.len(), a, b, c);
+    verdict::or_else(resolved, lent)
+}
+
+// The fit of a resolved tree: 4, 6 to 10, 25, 15, the first that applies; a refusal leaves the three
+// buffers as they were.
+pub fn fit_resolved(
+    n: u32,
+    distances: &[u16],
+    parents: &[u8],
+    numerators: &mut [i64],
+    denominators: &mut [u32],
+    rounded: &mut [i64],
+) -> DirectFit
+    ensures { λ r. ⌜ DirectAnswer n (now (distances .entry)) (now (parents .entry)) (now (numerators .entry)) (now (numerators .exit)) (now (denominators .entry)) (now (denominators .exit)) (now (rounded .entry)) (now (rounded .exit)) r ⌝ }
+{
+    let found = check_direct(
+        n,
+        distances,
+        parents,
+        numerators.len(),
+        denominators.len(),
+        rounded.len(),
+    );
+    if let Verdict::Refused(reason) = found {
+        return DirectFit {
+            verdict: Verdict::Refused(reason),
+            r: 0,
+            h: 0,
+        };
+    }
+    resolve(n, distances, parents, numerators, denominators, rounded)
+}
+
+// The same for a program in C: the number, 0 where the tree is fitted.
+#[no_mangle]
+pub extern "C" fn resolved_lengths(
+    n: u32,
+    distances: &[u16],
+    parents: &[u8],
+    numerators: &mut [i64],
+    denominators: &mut [u32],
+    rounded: &mut [i64],
+) -> u32
+    ensures { λ r. ⌜ LengthsAnswer n (now (distances .entry)) (now (parents .entry)) (now (numerators .entry)) (now (numerators .exit)) (now (denominators .entry)) (now (denominators .exit)) (now (rounded .entry)) (now (rounded .exit)) r ⌝ }
+{
+    let found = fit_resolved(n, distances, parents, numerators, denominators, rounded);
+    let answer = found.verdict;
+    verdict::number(answer)
+}

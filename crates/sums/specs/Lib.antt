@@ -1,4 +1,0 @@
-pub mod Ready
-pub mod Next
-pub mod Shares
-pub mod Meeting

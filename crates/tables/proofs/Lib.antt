@@ -1,0 +1,4 @@
+pub mod Filling
+pub mod Splitting
+pub mod Lent
+pub mod Settled

@@ -1,0 +1,13 @@
+pub mod Chains
+pub mod Strains
+pub mod Union
+pub mod Counts
+pub mod Ways
+pub mod Depth
+pub mod Directions
+pub mod Kernel
+pub mod Checked
+pub mod Masks
+pub mod Faults
+pub mod Numbers
+pub mod EdgeTables

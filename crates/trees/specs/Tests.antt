@@ -1,0 +1,41 @@
+-- The tests of a tree, in document 01's order. V is one more than the entries of the parent table.
+use mathlib.Core.Bool.{Bool, false, cond, _||_}
+use mathlib.Core.List.{List}
+use Prim.Native.Nat.{ℕ, _+_, _-_, _*_}
+use lib.Dec.{eqb, ltb, leb}
+use lib.ListN.{length}
+use Rattle.verdict.specs.Number.{test, _orElse_}
+use Rattle.verdict.specs.Table.{some}
+use Rattle.matrix.specs.Tests.{strainsOut}
+use Rattle.trees.specs.Chain.{parentOf}
+use Rattle.trees.specs.Allowed.{children}
+
+-- 8: V not N + 1 to 2N - 2
+abbrev pub verticesOut : ℕ → ℕ → Bool
+verticesOut N V′ = ltb V′ (N + 1) || ltb (2 * N - 2) V′
+
+-- 9: a parent not greater than its child, below N or above V - 1
+abbrev pub parentOut : ℕ → ℕ → (ℕ → ℕ) → ℕ → Bool
+parentOut N K par v = leb (par v) v || (ltb (par v) N || ltb K (par v))
+
+-- how many children a vertex needs: none at a strain, three at the root, two at another inner vertex
+abbrev pub needed : ℕ → ℕ → ℕ → ℕ
+needed N K w = cond (ltb w N) 0 (cond (eqb w K) 3 2)
+
+-- 10: an inner vertex with too few children
+abbrev pub childrenFew : ℕ → ℕ → (ℕ → ℕ) → ℕ → Bool
+childrenFew N K par w = ltb (children K par w) (needed N K w)
+
+-- an inner vertex with fewer children than it needs, or with more than `spare` above that: what both tests over the children ask
+-- (`few-is`: 10 is this with as many to spare as there are edges; resolution's `degree-is`: 25 is this with none to spare)
+abbrev pub childrenOut : ℕ → ℕ → ℕ → (ℕ → ℕ) → ℕ → Bool
+childrenOut spare N K par w =
+    cond (ltb w N) false (ltb (children K par w) (needed N K w) || ltb (needed N K w + spare) (children K par w))
+
+-- the number that a tree gets
+abbrev pub treeNumber : ℕ → List ℕ → ℕ
+treeNumber N ps =
+    test 6 (strainsOut N)
+    orElse test 8 (verticesOut N (length ps + 1))
+    orElse test 9 (some (length ps) (parentOut N (length ps) (parentOf ps)))
+    orElse test 10 (some (length ps + 1) (childrenFew N (length ps) (parentOf ps)))

@@ -1,0 +1,62 @@
+-- The direct fit of a sheet without lengths: the number of its bytes, and the fit of what its two records hold, with the lengths in three
+-- tables.
+use mathlib.Core.Path.{_≡_}
+use mathlib.Core.List.{List}
+use Prim.Native.Nat.{ℕ, _≤_, _<_}
+use lib.IntN.{pos}
+use lib.ListN.{length, getD}
+use Rattle.exact.specs.Table.{table}
+use Rattle.verdict.specs.Number.{numberOf, test, _orElse_}
+use Rattle.matrix.specs.Tests.{matrixNumber}
+use Rattle.trees.specs.Limits.{maxEdges}
+use Rattle.trees.specs.EdgeTable.{EdgeTable}
+use Rattle.fit.specs.Tests.{postedNumber}
+use Rattle.resolution.specs.Tests.{unresolved}
+use Rattle.resolution.specs.Lengths.{topOf, bottomOf, thousandthOf}
+use Rattle.resolving.specs.Answers.{Resolves}
+use Rattle.records.specs.Form.{formNumber}
+use Rattle.reading.specs.Holds.{strainsOf, distancesOf, parentsOf}
+use Rattle.reading.specs.Tests.{strainsDiffer}
+use Rattle.unfitted.specs.declared.UnfittedFit.{UnfittedFit}
+
+-- the whole number of a sheet without lengths: its form, the matrix, whether the tree is for as many strains, both together, and whether
+-- the tree is resolved; 1 to 10, 25
+abbrev pub unfittedNumber : List ℕ → ℕ
+unfittedNumber s =
+    formNumber 2 s
+    orElse matrixNumber (strainsOf s) (distancesOf s)
+    orElse test 8 (strainsDiffer s)
+    orElse postedNumber (strainsOf s) (distancesOf s) (parentsOf s)
+    orElse test 25 (unresolved (strainsOf s) (parentsOf s))
+
+-- a denominator for each of K edges, then zeros
+pub record Denominators (K : ℕ) (f : ℕ → ℕ) (r : List ℕ) : Type 0 where
+  pub size : length r ≡ maxEdges
+  pub entries : (v : ℕ) → v < K → getD r v 0 ≡ f v
+  pub rest : (v : ℕ) → K ≤ v → getD r v 0 ≡ 0
+
+-- an accepted sheet: its fit, and the three tables
+pub record Fitted (s : List ℕ) (r : UnfittedFit) : Type 0 where
+  pub strains : r .strains ≡ strainsOf s
+  pub edges : r .edges ≡ length (parentsOf s)
+  pub few : length (parentsOf s) ≤ maxEdges
+  pub resolves : Resolves (strainsOf s) (distancesOf s) (parentsOf s) (table (length (parentsOf s)) (topOf (strainsOf s) (distancesOf s) (parentsOf s))) (table (length (parentsOf s)) (bottomOf (strainsOf s) (distancesOf s) (parentsOf s))) (table (length (parentsOf s)) (thousandthOf (strainsOf s) (distancesOf s) (parentsOf s))) (r .fit)
+  pub tops : EdgeTable (length (parentsOf s)) (topOf (strainsOf s) (distancesOf s) (parentsOf s)) (r .tops)
+  pub bottoms : Denominators (length (parentsOf s)) (bottomOf (strainsOf s) (distancesOf s) (parentsOf s)) (r .bottoms)
+  pub rounded : EdgeTable (length (parentsOf s)) (thousandthOf (strainsOf s) (distancesOf s) (parentsOf s)) (r .rounded)
+
+-- a refused one: zeros
+pub record Unfitted (x : UnfittedFit) : Type 0 where
+  pub r : x .fit .r ≡ pos 0
+  pub h : x .fit .h ≡ pos 0
+  pub strains : x .strains ≡ 0
+  pub edges : x .edges ≡ 0
+  pub tops : x .tops ≡ table maxEdges (λ _. pos 0)
+  pub bottoms : x .bottoms ≡ table maxEdges (λ _. 0)
+  pub rounded : x .rounded ≡ table maxEdges (λ _. pos 0)
+
+-- the whole answer
+pub record UnfittedAnswer (s : List ℕ) (r : UnfittedFit) : Type 0 where
+  pub number : numberOf (r .fit .verdict) ≡ unfittedNumber s
+  pub fitted : unfittedNumber s ≡ 0 → Fitted s r
+  pub unfitted : (unfittedNumber s ≡ 0 → ⊥) → Unfitted r
