@@ -1,9 +1,9 @@
 #!/usr/bin/env python3
-"""Writes the input of the program `figures` and what it must print: the bench figures of document 01 that
-are not starred, with both sides of each limit; fits of the exact solver on trees of every kind, and of
-each a damaged twin; the worked example of document 000 and the data of document 001's Table 1; and for the
-direct fit every resolved tree of up to six strains, random ones, caterpillars and balanced ones up to 64, with
-the exact solver's lengths, and sheets without lengths that are refused.
+"""Writes the input of the program `figures` and what it must print: the figures of RULES, Bench figures
+that are not starred, with both sides of each limit; fits of the exact solver on trees of every kind, and of
+each a damaged twin; the worked example of Bryant and Waddell (1998) and the data of Felsenstein's (1997) Table 1;
+and for the direct fit every resolved tree of up to six strains, random ones, caterpillars and balanced ones up
+to 64, with the exact solver's lengths, and sheets without lengths that are refused.
 What must be printed comes from the plain reading (reading.py) and the solver (solver.py) alone.
 
     tests/make_figures.py            writes crates/figures/stdin and crates/figures/stdout
@@ -160,8 +160,8 @@ def damaged(fields, rng):
 
 
 def worked_example():
-    """Document 000, figure 3 and equation 31. The text does not print the matrix, and the fit depends on it
-    through the split sums alone; so any whole distances with the printed split sums have this fit."""
+    """Bryant and Waddell (1998), figure 3 and equation 31. The text does not print the matrix, and the fit
+    depends on it through the split sums alone; so any whole distances with the printed split sums have this fit."""
     printed = [80, 70, 56, 57, 80, 84, 90, 91, 136, 201, 129, 158]
     lengths = [Fraction(*x) for x in ((13, 3), (8, 3), (23, 24), (1, 12), (47, 12), (7, 2), (9, 2), (163, 24),
                                       (15, 16), (97, 32), (25, 16), (51, 16))]
@@ -205,7 +205,7 @@ def whole_distances(n, parents, sums, lengths):
 
 
 def table_one():
-    """Document 001, Table 1, on a tree of the animals; monkey hangs at the root."""
+    """Felsenstein (1997), Table 1, on a tree of the animals; monkey hangs at the root."""
     rows = ["32 48 51 50 48 98 148", "26 34 29 33 84 136", "42 44 44 92 152", "44 38 86 142", "24 89 142", "90 142", "148"]
     distances = [int(x) for row in rows for x in row.split()]
     # dog 0, bear 1, raccoon 2, weasel 3, seal 4, sea lion 5, cat 6, monkey 7
@@ -216,7 +216,7 @@ def table_one():
 
 
 def limits():
-    """Both sides of each limit, and the figures of document 01 that are not starred."""
+    """Both sides of each limit, and the figures of RULES, Bench figures that are not starred."""
     n, distances, parents, d, numerators = A
     yield b""
     whole = reading.sheet(*A)

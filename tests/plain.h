@@ -1,4 +1,4 @@
-/* Plain readings of document 01 in C, for comparison with the proved library. They share nothing with it
+/* Plain readings of docs/RULES.md in C, for comparison with the proved library. They share nothing with it
  * and little with each other. */
 #ifndef PLAIN_H
 #define PLAIN_H

@@ -1,4 +1,4 @@
-"""A plain reading of document 01, for comparison. It shares nothing with the crates: every sum is taken
+"""A plain reading of docs/RULES.md, for comparison. It shares nothing with the crates: every sum is taken
 over all pairs, every edge is asked for every pair, and numbers are Python's whole numbers."""
 import struct
 

@@ -1,6 +1,6 @@
 """An exact least-squares solver: the lengths of a tree's edges that fit a matrix best, as fractions. The
 normal equations are solved modulo a large prime, the fractions read back, and the equations then checked
-exactly. It knows the model (document 000, equation 22) and nothing of the crates."""
+exactly. It knows the model (Bryant and Waddell 1998, equation 22) and nothing of the crates."""
 import math
 from fractions import Fraction
 

@@ -1,5 +1,5 @@
-// K11's lengths on plain numbers, in lowest terms: an outer and an inner edge of a resolved tree, from the sizes of the
-// subtrees at its ends and the split sums of the edges around it.
+// The lengths of RULES, Resolved trees on plain numbers, in lowest terms: an outer and an inner edge of a resolved
+// tree, from the sizes of the subtrees at its ends and the split sums of the edges around it.
 use arithmetic::Ratio;
 ghost use mathlib.Core.Path.{_≡_};
 ghost use Prim.Native.Nat.{_≤_};

@@ -1,5 +1,5 @@
 // For each edge the sum of the remainders of the pairs that it parts: what the verdict asks for. It is made by the steps of Bryant
-// and Waddell (document 000, algorithm FASTMTM); the equation numbers at the steps are theirs.
+// and Waddell (1998, algorithm FASTMTM); the equation numbers at the steps are theirs.
 use tree::Tree;
 ghost use mathlib.Core.Path.{_≡_};
 ghost use Prim.Native.Nat.{ℕ, _<_, _^_};

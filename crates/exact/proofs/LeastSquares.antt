@@ -1,8 +1,9 @@
--- Demand 3 over any incidence: `minimum` and `rounding` for the equations, `minimum⁰` and `rounding⁰` for tables without
--- negative lengths. All four come from one expansion, and so does `on-top`, by how much a fit's sum of squares is the least. With r the remainders, the cross sum of a table x is Σ r·path(x), and
+-- RULES, Least squares over any incidence: `minimum` and `rounding` for the equations, `minimum⁰` and `rounding⁰` for
+-- tables without negative lengths. All four come from one expansion, and so does `on-top`, by how much a fit's sum of
+-- squares is the least. With r the remainders, the cross sum of a table x is Σ r·path(x), and
 --   D²·X = Q²·Σr² + 2·Q·cross(Q·n - D·x) + Σ path(Q·n - D·x)²,
--- since D·(Q·d - path(x)) = Q·r + path(Q·n - D·x). Exchanging the two sums, cross(x) = Σ x_v·(edge v's sum of remainders), so
--- the equations make it 0, and K7's conditions make it 0 at n and m and never positive elsewhere.
+-- since D·(Q·d - path(x)) = Q·r + path(Q·n - D·x). Exchanging the two sums, cross(x) = Σ x_v·(edge v's sum of
+-- remainders), so the equations make it 0, and `Conditions` make it 0 at n and m and never positive elsewhere.
 use mathlib.Core.Path.{_≡_, sym, _∙_, ap, ap₂, subst, subst₂}
 use mathlib.Core.List.{[], _∷_}
 use mathlib.Core.Bool.{Bool}

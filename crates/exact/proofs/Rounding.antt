@@ -1,6 +1,6 @@
 -- The laws of `nearest`, the rounding to thousandths.
 -- `nearest-near` is what the theorems on rounded lengths use. `nearest-is` and `nearest-only` say that the definition is
--- document 01's words and nothing else. `nearest-bound` is for its range.
+-- the words of RULES, The numbers of a fit and nothing else. `nearest-bound` is for its range.
 use mathlib.Core.Path.{_≡_, refl, sym, _∙_, ap, subst}
 use mathlib.Core.List.{[], _∷_}
 use mathlib.Core.Logic.{_⊎_, inl, inr}

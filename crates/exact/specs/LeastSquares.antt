@@ -1,4 +1,4 @@
--- The least-squares fit in whole numbers, and what document 01's demand 3 says of it, over any incidence.
+-- The least-squares fit in whole numbers, and what RULES, Least squares says of it, over any incidence.
 -- There are K edges and any index set I (in the product, the pairs of strains); `parts v p` says whether edge v parts p.
 -- S adds over I. d is what was observed, D a denominator, n a table of K numerators, Q and x another denominator and table.
 -- Nothing here knows a tree or a matrix: pairs that are left out are an incidence and a d that are 0 there.
@@ -28,7 +28,8 @@ remainder K parts d D n p = D *ℤ d p -ℤ path K parts n p
 abbrev pub edgeSum : {I : Type 0} → ((I → ℤ) → ℤ) → ℕ → (ℕ → I → Bool) → (I → ℤ) → ℤ → (ℕ → ℤ) → ℕ → ℤ
 edgeSum S K parts d D n v = S (λ p. ind (parts v p) *ℤ remainder K parts d D n p)
 
--- The verdict's equations: every edge's sum of remainders is zero (document 000, equation 22 with W the identity).
+-- The verdict's equations: every edge's sum of remainders is zero (Bryant and Waddell 1998, equation 22 with W the
+-- identity).
 abbrev pub Equations : {I : Type 0} → ((I → ℤ) → ℤ) → ℕ → (ℕ → I → Bool) → (I → ℤ) → ℤ → (ℕ → ℤ) → Type 0
 Equations S K parts d D n = (v : ℕ) → v < K → edgeSum S K parts d D n v ≡ pos 0
 
@@ -51,7 +52,7 @@ sumH S K parts = S (λ p. sq (hops K parts p))
 abbrev pub Near : ℕ → ℤ → (ℕ → ℤ) → (ℕ → ℤ) → Type 0
 Near K D n m = (v : ℕ) → v < K → Within D (pos 2 *ℤ (pos 1000 *ℤ n v -ℤ D *ℤ m v))
 
--- Demand 3, the fit itself: the sum of squares is F/D, and no table x over any Q has a smaller one.
+-- Least squares, the fit itself: the sum of squares is F/D, and no table x over any Q has a smaller one.
 -- `Against Q x` are the tables compared with.
 pub record Minimum {I : Type 0} (S : (I → ℤ) → ℤ) (K : ℕ) (parts : ℕ → I → Bool) (d : I → ℤ) (D : ℤ) (n : ℕ → ℤ)
     (Against : ℤ → (ℕ → ℤ) → Type 0) : Type 0 where
@@ -60,7 +61,8 @@ pub record Minimum {I : Type 0} (S : (I → ℤ) → ℤ) (K : ℕ) (parts : ℕ
   -- Q²·D·F is at most D²·X
   pub least : (Q : ℤ) (x : ℕ → ℤ) → Against Q x → Q *ℤ Q *ℤ D *ℤ sumF S K parts d D n ≤ᶻ D *ℤ D *ℤ sumX S K parts d Q x
 
--- Demand 3, the rounding to thousandths: its sum of squares is within H/4,000,000 of any other's, and its paths within h/2000.
+-- Least squares, the rounding to thousandths: its sum of squares is within H/4,000,000 of any other's, and its paths
+-- within h/2000.
 pub record Rounding {I : Type 0} (S : (I → ℤ) → ℤ) (K : ℕ) (parts : ℕ → I → Bool) (d : I → ℤ) (D : ℤ) (n m : ℕ → ℤ)
     (Against : ℤ → (ℕ → ℤ) → Type 0) : Type 0 where
   -- 4·Q²·R is at most 4,000,000·X + Q²·H

@@ -12,8 +12,8 @@ unfoldable pub nearest : ℕ → ℤ → ℤ
 nearest D (pos a) = pos (nearestUp D (1000 * a))
 nearest D (negsuc a) = negℤ (pos (nearestUp D (1000 * suc a)))
 
--- what document 01's words ask of m: twice its distance from 1000·n/D is at most 1, and where it is just 1, m is the one
--- farther from zero
+-- what RULES, The numbers of a fit asks of m: twice its distance from 1000·n/D is at most 1, and where it is just 1, m
+-- is the one farther from zero
 pub record IsNearest (D : ℕ) (n m : ℤ) : Type 0 where
   pub near : natAbs (pos 2 *ℤ (pos 1000 *ℤ n -ℤ pos D *ℤ m)) ≤ D
   pub away : natAbs (pos 2 *ℤ (pos 1000 *ℤ n -ℤ pos D *ℤ m)) ≡ D → natAbs (pos 1000 *ℤ n) ≤ natAbs (pos D *ℤ m)

@@ -1,7 +1,7 @@
--- Demand 3, and the ranges of F and R that it brings.
+-- RULES, Least squares, and the ranges of F and R that it brings.
 -- `f-low`, `f-high`: F is between 0 and 5,040,000,000,000,000,000, over any incidence whose equations hold.
 -- `close-high`: R of any rounding that is close to a fit. `r-low`, `r-high`: R, likewise. `r-sweep`, `r-term`: its running sums, and the square of one pair.
--- `fit-minimum`, `fit-rounding`: demand 3 over any such incidence.
+-- `fit-minimum`, `fit-rounding`: the minimum and the rounding over any such incidence.
 -- `least`: what stands is a minimum, and its rounding is close to it. `r-range`: R of what stands.
 use mathlib.Core.Path.{refl, sym, subst, subst₂}
 use mathlib.Core.Bool.{Bool}

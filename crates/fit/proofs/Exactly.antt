@@ -1,4 +1,4 @@
--- Demand 2, both ways: the verdict's number is 0 exactly where the proposal stands.
+-- RULES, The verdict, both ways: the verdict's number is 0 exactly where the proposal stands.
 -- `stands→`: what stands gets 0. `→stands`: what gets 0 stands.
 use mathlib.Core.Path.{_≡_}
 use mathlib.Core.Bool.{false, not}

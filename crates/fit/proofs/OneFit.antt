@@ -1,6 +1,6 @@
--- K10, one fit only: `one-fit` for every proposal that stands, `accepted-one` and `accepted-agree` for every input that `judge`
--- accepts. An allowed tree's incidence has no kernel (trees' `no-kernel`), so its paths settle every table, and exact's theorem
--- over any such incidence does the rest.
+-- RULES, One fit only: `one-fit` for every proposal that stands, `accepted-one` and `accepted-agree` for every input
+-- that `judge` accepts. An allowed tree's incidence has no kernel (trees' `no-kernel`), so its paths settle every
+-- table, and exact's theorem over any such incidence does the rest.
 use mathlib.Core.Path.{_≡_}
 use mathlib.Core.List.{List}
 use Prim.Native.Nat.{ℕ, _<_}

@@ -26,7 +26,7 @@ use Rattle.matrix.specs.Proper as matrix
 use Rattle.lengths.specs.Proper as lengths
 use Rattle.exact.specs.Table.{entryOf}
 
--- what document 01's limits say of a proposal with K edges
+-- what the limits of RULES say of a proposal with K edges
 pub record Bounds (K : ℕ) (d : ℕ × ℕ → ℤ) (D : ℕ) (n : ℕ → ℤ) : Type 0 where
   pub few : K ≤ 125
   pub one : 1 ≤ D

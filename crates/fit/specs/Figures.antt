@@ -1,4 +1,4 @@
--- The starred bench figures of document 01, as one table, and the test that the definitions give every figure in it.
+-- The starred figures of RULES, Bench figures, as one table, and the test that the definitions give every figure in it.
 use mathlib.Core.Bool.{Bool, true, false, cond, not, _&&_}
 use mathlib.Core.List.{List, [], _∷_}
 use Prim.Native.Nat.{ℕ, _*_}
@@ -182,7 +182,8 @@ roundings =
     ∷ record { denominator = 24; numerator = pos 163; thousandths = pos 6792 }
     ∷ []
 
--- ---- demand 3 and K10 at fits where their inequalities leave no room, so that another bound would be false there
+-- ---- RULES, Least squares and One fit only, at fits where their inequalities leave no room, so that another bound
+-- would be false there
 -- X of the table xs over Q
 abbrev pub xOf : ℕ → List ℕ → List ℕ → ℕ → List ℤ → ℤ
 xOf N ds ps Q xs = sumX (pairs N) (length ps) (partsOf ps) (distance N ds) (pos Q) (entryOf xs)
@@ -220,11 +221,11 @@ roundingThere = leZ (pos (4 * (6 * 6)) *ℤ rOf 4 starDistances (starOf 4) 6 sta
 abbrev pub pathsThere : Bool
 pathsThere = leZ (pos 2000 *ℤ pathOf (starOf 4) starNumerators (0, 2) -ℤ pos 2 *ℤ (pos 6 *ℤ (pos 333 +ℤ negsuc 166))) (pos (2 * 6))
 
--- K10: A over 2 and over 4 are one fit, edge by edge D'·n = D·n'
+-- one fit only: A over 2 and over 4 are one fit, edge by edge D'·n = D·n'
 abbrev pub agreeThere : Bool
 agreeThere = same (pos 4 *ℤ pos 3) (pos 2 *ℤ pos 6) && same (pos 4 *ℤ pos 7) (pos 2 *ℤ pos 14)
 
--- K10: the table 1 0 0 of three strains has a path that is not zero, and it is one of the first strain's
+-- one fit only: the table 1 0 0 of three strains has a path that is not zero, and it is one of the first strain's
 abbrev pub kernelThere : Bool
 kernelThere = same (pathOf (starOf 3) (pos 1 ∷ pos 0 ∷ pos 0 ∷ []) (0, 1)) (pos 1)
 

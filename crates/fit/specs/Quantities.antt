@@ -1,5 +1,5 @@
--- Document 01's quantities: of a matrix ds of N strains, a tree ps, a denominator D and numerators ns. Each is a sum of exact's,
--- taken over the pairs of strains and the edges that part them.
+-- The quantities of RULES, Clusters to The numbers of a fit: of a matrix ds of N strains, a tree ps, a denominator D
+-- and numerators ns. Each is a sum of exact's, taken over the pairs of strains and the edges that part them.
 use mathlib.Core.Bool.{Bool}
 use mathlib.Core.List.{List}
 use Prim.Native.Nat.{ℕ}

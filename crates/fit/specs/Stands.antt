@@ -1,4 +1,4 @@
--- Demand 2 and demand 3, in document 01's words, and K10: one fit only.
+-- RULES, The verdict, Least squares and One fit only, in its words.
 use mathlib.Core.Path.{_≡_}
 use mathlib.Core.List.{List}
 use Prim.Native.Nat.{ℕ, _<_}
@@ -20,22 +20,23 @@ pub record Posted (N : ℕ) (ds ps : List ℕ) : Type 0 where
   pub matrix : matrix.Proper N ds
   pub tree : Allowed N (length ps) (parentOf ps)
 
--- Demand 2: counts and ranges pass, the tree is allowed, and for every edge observed minus tree distance adds to zero over the
--- pairs that the edge parts.
+-- The verdict: counts and ranges pass, the tree is allowed, and for every edge observed minus tree distance adds to
+-- zero over the pairs that the edge parts.
 pub record Stands (N : ℕ) (ds ps : List ℕ) (D : ℕ) (ns : List ℤ) : Type 0 where
   pub matrix : matrix.Proper N ds
   pub tree : Allowed N (length ps) (parentOf ps)
   pub lengths : lengths.Proper (length ps) D ns
   pub equations : Equations (pairs N) (length ps) (partsOf ps) (distance N ds) (pos D) (entryOf ns)
 
--- Demand 3: the fit is a minimum, and its rounding to thousandths is within H/4,000,000 of it. F is between 0 and 5,040,000,000,000,000,000.
+-- Least squares: the fit is a minimum, and its rounding to thousandths is within H/4,000,000 of it. F is between 0 and
+-- 5,040,000,000,000,000,000.
 pub record Least (N : ℕ) (ds ps : List ℕ) (D : ℕ) (ns : List ℤ) : Type 0 where
   pub minimum : Minimum (pairs N) (length ps) (partsOf ps) (distance N ds) (pos D) (entryOf ns) Any
   pub rounding : Rounding (pairs N) (length ps) (partsOf ps) (distance N ds) (pos D) (entryOf ns) (roundedOf D ns) Any
   pub f-low : pos 0 ≤ᶻ fOf N ds ps D ns
   pub f-high : fOf N ds ps D ns ≤ᶻ pos 5040000000000000000
 
--- K10: one fit only. F is the fit's, X the sum of squares of the table x over Q.
+-- One fit only. F is the fit's, X the sum of squares of the table x over Q.
 pub record OneFit (N : ℕ) (ds ps : List ℕ) (D : ℕ) (ns : List ℤ) : Type 0 where
   -- on one matrix and one tree, two accepted proposals (D, n) and (D', n') have D'·n = D·n' at every edge
   pub agree : (D′ : ℕ) (ns′ : List ℤ) → Stands N ds ps D′ ns′ → (v : ℕ) → v < length ps → pos D′ *ℤ entryOf ns v ≡ pos D *ℤ entryOf ns′ v

@@ -1,4 +1,5 @@
--- The steps of Bryant and Waddell (document 000): an outer edge's split sum from its strain's row, an inner edge's from its children's.
+-- The steps of Bryant and Waddell (1998; RULES, Split sums by cases): an outer edge's split sum from its strain's row,
+-- an inner edge's from its children's.
 use mathlib.Core.Path.{_≡_}
 use mathlib.Core.Bool.{not}
 use mathlib.Core.List.{List}

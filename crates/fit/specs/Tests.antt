@@ -1,4 +1,4 @@
--- The numbers that each function can give, in document 01's order.
+-- The numbers that each function can give, in their order (RULES, Numbers of refusal).
 use mathlib.Core.Bool.{Bool, not}
 use mathlib.Core.List.{List}
 use Prim.Native.Nat.{ℕ}

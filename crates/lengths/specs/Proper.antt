@@ -1,4 +1,4 @@
--- The proposals that document 01 takes: a numerator for each edge, D from 1 to 1,000,000, each numerator in its range.
+-- The proposals of RULES, Lengths: a numerator for each edge, D from 1 to 1,000,000, each numerator in its range.
 use mathlib.Core.Path.{_≡_}
 use mathlib.Core.List.{List}
 use Prim.Native.Nat.{ℕ, _≤_, _<_}

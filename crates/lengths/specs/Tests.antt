@@ -1,4 +1,5 @@
--- The tests of proposed lengths, in document 01's order, beside a tree with the given number of edges.
+-- The tests of proposed lengths, in their order (RULES, Numbers of refusal), beside a tree with the given number of
+-- edges.
 use mathlib.Core.Bool.{Bool, not, _||_}
 use mathlib.Core.List.{List}
 use Prim.Native.Nat.{ℕ}

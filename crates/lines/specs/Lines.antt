@@ -1,5 +1,5 @@
--- The print of a report, as document 01 lays it out, and that of a resolved tree fitted with no proposal: a line is a word and numbers,
--- a space before each, and ends in LF.
+-- The print of a report (RULES, The print), and that of a resolved tree fitted with no proposal
+-- (RULES, Resolved trees): a line is a word and numbers, a space before each, and ends in LF.
 use mathlib.Core.List.{List, [], _∷_, _++_}
 use Prim.Native.Nat.{ℕ, zero, suc}
 use lib.IntN.{ℤ, pos}

@@ -1,4 +1,5 @@
--- The matrices that document 01 takes: one distance for each pair, 3 to 64 strains, each distance at most 50,000.
+-- The matrices of RULES, Strains and distances: one distance for each pair, 3 to 64 strains, each distance at most
+-- 50,000.
 use mathlib.Core.Path.{_≡_}
 use mathlib.Core.List.{List}
 use Prim.Native.Nat.{ℕ, _≤_, _<_}

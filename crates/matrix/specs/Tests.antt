@@ -1,4 +1,4 @@
--- The tests of a matrix, in document 01's order.
+-- The tests of a matrix, in their order (RULES, Numbers of refusal).
 use mathlib.Core.Bool.{Bool, not, _||_}
 use mathlib.Core.List.{List}
 use Prim.Native.Nat.{ℕ}

@@ -1,6 +1,6 @@
 // Where strains meet: the ways of strains up the tree, the remainders of the pairs that meet at a vertex, and what each gives to
-// the shares of the vertices. The steps are those of Bryant and Waddell (document 000, algorithm FASTMTM); the equation numbers at
-// the steps are theirs.
+// the shares of the vertices. The steps are those of Bryant and Waddell (1998, algorithm FASTMTM); the equation numbers
+// at the steps are theirs.
 use matrix::Matrix;
 use tree::Tree;
 ghost use mathlib.Core.Path.{_≡_};

@@ -20,7 +20,7 @@ pub record Ready (N K D : ℕ) (ds ps cs : List ℕ) (ns : List ℤ) : Type 0 wh
   pub near : (k : ℕ) → getD ds k 0 ≤ maxDistance
   pub small : Small K ns
 
--- a numerator for each edge, in document 01's range; a rounded length may be a thousand times as large
+-- a numerator for each edge, in the range of RULES, Lengths; a rounded length may be a thousand times as large
 pub record InRange (K : ℕ) (ns : List ℤ) : Type 0 where
   pub room : K ≤ length ns
   pub near : (v : ℕ) → v < K → natAbs (entryOf ns v) ≤ maxNumerator

@@ -1,4 +1,4 @@
-// The print of a report, line by line, into a lent buffer: the bytes of document 01's print and no other. And
+// The print of a report, line by line, into a lent buffer: the bytes of RULES, The print and no other. And
 // the print of a resolved tree fitted with no proposal.
 use tree::Tree;
 ghost use mathlib.Core.Path.{_≡_};

@@ -1,5 +1,6 @@
 -- The print of a sheet's report is the print of the sheet.
--- `few-edges`: what the print asks. `shown-is`: the text of the report is document 01's print of what the sheet holds.
+-- `few-edges`: what the print asks. `shown-is`: the text of the report is the print (RULES, The print) of what the
+-- sheet holds.
 use mathlib.Core.Path.{_≡_, refl, sym, _∙_, ap, ap₂, subst}
 use mathlib.Core.List.{List, [], _∷_, _++_}
 use Prim.Native.Nat.{ℕ, zero, suc, _*_, _≤_, _<_}

@@ -1,4 +1,4 @@
--- The form's tests in one row, as document 01 lists them: 1; 2, 3, 4 for each record in turn; 5.
+-- The form's tests in one row, as RULES, Numbers of refusal lists them: 1; 2, 3, 4 for each record in turn; 5.
 use mathlib.Core.Path.{_≡_, ap, _∙_}
 use mathlib.Core.List.{List}
 use Prim.Native.Nat.{ℕ}

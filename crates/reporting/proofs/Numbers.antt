@@ -1,6 +1,6 @@
 -- What keeps the numbers of a fit within 64 bits, and that the table of rounded lengths gives R.
--- `f-fits`, `r-fits`: demand 3's ranges. `ready-rounded`: the rounded lengths can be summed over. `r-same`, `rounded-is`: the
--- table behind whose edges stand zeros has the sums and the entries of the definition.
+-- `f-fits`, `r-fits`: the ranges of RULES, Least squares. `ready-rounded`: the rounded lengths can be summed over.
+-- `r-same`, `rounded-is`: the table behind whose edges stand zeros has the sums and the entries of the definition.
 use mathlib.Core.Path.{_≡_, sym, _∙_, ap, subst}
 use mathlib.Core.Bool.{Bool, cond}
 use mathlib.Core.List.{List}

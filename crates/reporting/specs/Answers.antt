@@ -18,7 +18,7 @@ use Rattle.reporting.specs.declared.FitReport.{FitReport}
 abbrev pub maxTreeLength : ℕ
 maxTreeLength = maxEdges * maxNumerator
 
--- the numbers of an accepted fit, demand 2 and demand 3 of it
+-- the numbers of an accepted fit, that it stands, and what RULES, Least squares says of it
 pub record Reported (N : ℕ) (ds ps : List ℕ) (D : ℕ) (ns : List ℤ) (after : List ℤ) (x : FitReport) : Type 0 where
   pub strains : x .strains ≡ N
   pub edges : x .edges ≡ length ps

@@ -1,6 +1,7 @@
--- K11's lengths by split sums. An edge's split sum is the distances between its two sides; the three edges at a vertex of degree
--- three have sides that are all the strains, so each split sum is the distances from one direction to the other two, and those
--- from one to another are half of the two split sums less the third. The tops of specs/Splits are then twice K11's. Laws:
+-- The lengths of RULES, Resolved trees by split sums. An edge's split sum is the distances between its two sides; the
+-- three edges at a vertex of degree three have sides that are all the strains, so each split sum is the distances from
+-- one direction to the other two, and those from one to another are half of the two split sums less the third. The tops
+-- of specs/Splits are then twice those by averages. Laws:
 -- `split-between`, `farther-between`: a split sum is the distances between a set and all others;
 -- `twice-own`, `twice-farther`, `twice-sibling`: twice the distances between two directions at an edge's upper end;
 -- `outer-top`, `inner-top`: the tops are even, twice `starOf` and twice `edgeOf`;
@@ -125,7 +126,7 @@ module _ (N K : ℕ) (par : ℕ → ℕ) (ok : Allowed N K par) (res : Resolved 
     split-farther : σ (farther K par c) ≡ S (bit par c) R +ℤ S (bit par s) R
     split-farther = farther-cross ∙ split-rest
 
-    -- the sums of K11 by weights
+    -- the sums of the averages by weights
     to-own : between N d (strainsBelow par c) (strainsBelow par s) ≡ S (bit par c) (bit par s)
     to-own = between-clusters N d par c s
 
@@ -153,7 +154,7 @@ module _ (N K : ℕ) (par : ℕ → ℕ) (ok : Allowed N K par) (res : Resolved 
       ∙ sym (between-link N d (strainsBelow par v) (λ i. not (strainsBelow par v i)) (bit par v) (λ i. pos 1 -ℤ bit par v i) (λ i k. refl) (all-but (strainsBelow par v) (bit par v) N (λ i k. refl)))
 
   -- ---- an outer edge
-  -- the top is twice K11's
+  -- the top is twice that by averages
   pub outer-top : (c : ℕ) → c < N → outerTop (size N (strainsBelow par (sibling K par c))) (size N (neither par c (sibling K par c))) (σ c) (σ (sibling K par c)) (σ (farther K par c))
       ≡ pos 2 *ℤ starOf (pos 1) (size N (strainsBelow par (sibling K par c))) (size N (neither par c (sibling K par c)))
       (between N d (strainsBelow par c) (strainsBelow par (sibling K par c))) (between N d (strainsBelow par c) (neither par c (sibling K par c))) (between N d (strainsBelow par (sibling K par c)) (neither par c (sibling K par c)))
@@ -205,7 +206,7 @@ module _ (N K : ℕ) (par : ℕ → ℕ) (ok : Allowed N K par) (res : Resolved 
         (λ i k. eq-by (z-sub (both i k)) (by-ring (bit par c i ∷ bit par (s c l) i ∷ bit par x i ∷ bit par y i ∷ []) (search quote depth 20) tt))
         ∙ ap₂ _+ℤ_ (link-sym N (either d) (either-sym d) (bit par y) (bit par x)) (link-∪ʳ N (either d) (either-sym d) (bit par y) (bit par (s c l)) (R c l))
 
-    -- the top is twice K11's
+    -- the top is twice that by averages
     pub inner-top : innerTop (size N (strainsBelow par (childOf K par c 0))) (size N (strainsBelow par (childOf K par c 1))) (size N (strainsBelow par (sibling K par c))) (size N (neither par c (sibling K par c)))
         (σ c) (σ (childOf K par c 0)) (σ (childOf K par c 1)) (σ (sibling K par c)) (σ (farther K par c))
         ≡ pos 2 *ℤ edgeOf (size N (strainsBelow par (childOf K par c 0))) (size N (strainsBelow par (childOf K par c 1))) (size N (strainsBelow par (sibling K par c))) (size N (neither par c (sibling K par c)))

@@ -1,6 +1,7 @@
--- K11's lengths meet every edge's equation. The sum of remainders of an edge is D times the distances between its two sides less the
--- paths between them (`edge-sides`); every such path goes by way of the edge's upper end, so the paths are those from each side to
--- that end (`link-along`); and what these are is the law of three directions there, which the lengths meet (Resolved).
+-- The lengths of RULES, Resolved trees meet every edge's equation. The sum of remainders of an edge is D times the
+-- distances between its two sides less the paths between them (`edge-sides`); every such path goes by way of the edge's
+-- upper end, so the paths are those from each side to that end (`link-along`); and what these are is the law of three
+-- directions there, which the lengths meet (Resolved).
 -- `equations`: so over any common denominator the lengths in lowest terms, or in any other, are a fit.
 use mathlib.Core.Path.{_≡_, refl, sym, _∙_, ap, ap₂}
 use mathlib.Core.Bool.{Bool, true, false, cond}
@@ -85,7 +86,7 @@ module _ (N K : ℕ) (par : ℕ → ℕ) (ok : Allowed N K par) (x : ℕ → ℤ
         ∙ link-sub scaled (along par K x) (bit par v) (λ j. pos 1 -ℤ bit par v j)
 
     module _ (g : Degree3 N K par) where
-      -- the numerator x over D of each edge is K11's length
+      -- the numerator x over D of each edge is the length by averages
       record Lengths : Type 0 where
         outer : (c : ℕ) → c < N → IsStar (pos 1) (sum N (bit par (g .other c))) (sum N (rest par c (g .other c))) (x c)
             (link N scaled (bit par c) (bit par (g .other c))) (link N scaled (bit par c) (rest par c (g .other c))) (link N scaled (bit par (g .other c)) (rest par c (g .other c)))

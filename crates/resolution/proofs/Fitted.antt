@@ -1,5 +1,5 @@
--- Demands 2 and 3 of a resolved tree's lengths, over any common denominator, and R's range that they bring. There is a common
--- denominator (`common`), so R is that of a rounding close to a fit.
+-- RULES, The verdict and Least squares, of a resolved tree's lengths, over any common denominator, and R's range that
+-- they bring. There is a common denominator (`common`), so R is that of a rounding close to a fit.
 use mathlib.Core.Path.{_≡_, refl, sym, _∙_, ap, ap₂, subst}
 use mathlib.Core.Bool.{Bool, cond}
 use mathlib.Core.List.{[], _∷_}
@@ -103,7 +103,7 @@ module _ (N K : ℕ) (par : ℕ → ℕ) (ok : Allowed N K par) (res : Resolved 
   pub rounded-small : (v : ℕ) → v < K → natAbs (rounded v) ≤ 50000001
   rounded-small v l = rounded-near (den v) (num v) (in-lowest v l .positive) (top-near (lengthBy N K par (splitAt N par d) v) (edgeLength N K par d v) (facts v l) (num v) (den v) (by-splits v l))
 
-  -- demand 2's equations over any common denominator
+  -- the verdict's equations over any common denominator
   pub meets-all : (D : ℤ) (n : ℕ → ℤ) → Over K num den D n → Equations (pairs N) K (partsPair par) d D n
   meets-all D n o = equations N K par ok res d num den (λ c l. (in-lowest c l .value, in-lowest c l .positive)) D n (o .same)
 

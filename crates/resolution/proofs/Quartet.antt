@@ -1,7 +1,8 @@
 -- The arithmetic of four sets of strains about an inner edge: A, B at one end and C, D at the other, of sizes a, b, c, d; ab, ac, ..
--- are the sums of distances between them. The paths from a set to a vertex of degree three are half of what K11's outer length says
--- of a strain (`starOf`). The one idea: an edge's length by K11 (`edgeOf`) is what makes that law at one end of the edge give the
--- same law at the other (`grow`), and the law in all three directions at a vertex gives an edge's equation (`meets`).
+-- are the sums of distances between them. The paths from a set to a vertex of degree three are half of what the outer
+-- length says of a strain (`starOf`). The one idea: an edge's length by averages (`edgeOf`) is what makes that law at
+-- one end of the edge give the same law at the other (`grow`), and the law in all three directions at a vertex gives an
+-- edge's equation (`meets`).
 -- Both laws are free of denominators: `IsStar` and `IsEdge` multiply them out.
 use mathlib.Core.Path.{_≡_, _∙_, ap, ap₂}
 use mathlib.Core.List.{[], _∷_}

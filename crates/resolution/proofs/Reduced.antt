@@ -1,5 +1,6 @@
--- From what the code reduces to the lengths in lowest terms. The fraction by split sums has the value of K11's (`same`), both its
--- numbers are even, so its lowest denominator goes into half of its own, and its value is at most 50,000 from zero.
+-- From what the code reduces to the lengths in lowest terms. The fraction by split sums has the value of the one by
+-- averages (`same`), both its numbers are even, so its lowest denominator goes into half of its own, and its value is
+-- at most 50,000 from zero.
 use mathlib.Core.Path.{_≡_, refl, sym, _∙_, ap, ap₂, subst}
 use mathlib.Core.Bool.{cond}
 use mathlib.Core.List.{[], _∷_}

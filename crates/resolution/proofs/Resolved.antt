@@ -1,6 +1,7 @@
--- The lengths of K11 meet the law of three directions at every vertex of a resolved tree. From the strains up to the root the law
--- of each edge's lower side is that of its children's (`down`); at the root all three directions are then known; and from the root
--- back to the strains the law of an edge's upper side is that of the other two directions at its parent (`up-step`).
+-- The lengths of RULES, Resolved trees meet the law of three directions at every vertex of a resolved tree. From the
+-- strains up to the root the law of each edge's lower side is that of its children's (`down`); at the root all three
+-- directions are then known; and from the root back to the strains the law of an edge's upper side is that of the other
+-- two directions at its parent (`up-step`).
 -- `star`: so at each edge's upper end the law holds in all three directions.
 use mathlib.Core.Path.{_≡_, refl, sym, _∙_, ap, ap₂, subst}
 use mathlib.Core.Logic.{_⊎_, inl, inr}
@@ -77,7 +78,7 @@ module _ (N K : ℕ) (par : ℕ → ℕ) (ok : Allowed N K par) (g : Degree3 N K
     All : ℕ → Type 0
     All w = Three N e r (bit par (first w)) (bit par (second w)) (rest par (first w) (second w)) w
 
-    -- a strain's own edge: the path to its parent is the edge's length, which is K11's
+    -- a strain's own edge: the path to its parent is the edge's length, which is the one by averages
     own-zero : (c : ℕ) → c < N → reach N r (bit par c) c ≡ pos 0
     unfolding reach
     own-zero c h = sum-cong N (λ i l. ap (λ y. y *ℤ along par K x i c) (own N K par ok g c i h)) ∙ sum-at N c (λ i. along par K x i c) h ∙ along-self par K x c

@@ -1,5 +1,6 @@
--- The values of K11's fractions without their denominators: f is p over q where f's top times q is p times f's bottom. Such values
--- add, subtract and multiply as at school, so K11's averages come over one denominator. Laws:
+-- The values of the fractions of RULES, Resolved trees without their denominators: f is p over q where f's top times q
+-- is p times f's bottom. Such values add, subtract and multiply as at school, so the averages come over one
+-- denominator. Laws:
 -- `value-⊕`, `value-⊖`, `value-⊗`, `value-half`: of a sum, a difference, a product, a half; `value-by`: over another denominator;
 -- `outer-value`, `outer-positive`: an outer length is `starOf` over twice the sizes' product;
 -- `inner-value`, `inner-positive`: an inner length is `edgeOf` over 2abcd(a + b)(c + d);

@@ -1,4 +1,4 @@
--- The lengths of a resolved tree, in lowest terms and in thousandths, and what holds of them (K11).
+-- The lengths of a resolved tree, in lowest terms and in thousandths, and what holds of them (RULES, Resolved trees).
 use mathlib.Core.Path.{_≡_}
 use mathlib.Core.List.{List}
 use Prim.Native.Nat.{ℕ, _≤_, _<_}
@@ -25,7 +25,7 @@ topOf N ds ps v = lowestTop (lengthOf N ds ps v)
 abbrev pub bottomOf : ℕ → List ℕ → List ℕ → ℕ → ℕ
 bottomOf N ds ps v = lowestBottom (lengthOf N ds ps v)
 
--- m: the length in thousandths, by document 01's rounding
+-- m: the length in thousandths, rounded as in RULES, The numbers of a fit
 abbrev pub thousandthOf : ℕ → List ℕ → List ℕ → ℕ → ℤ
 thousandthOf N ds ps v = nearest (bottomOf N ds ps v) (topOf N ds ps v)
 
@@ -38,8 +38,8 @@ pub record Over (K : ℕ) (num : ℕ → ℤ) (den : ℕ → ℕ) (D : ℤ) (n :
   pub positive : pos 0 <ᶻ D
   pub same : (v : ℕ) → v < K → n v *ℤ pos (den v) ≡ D *ℤ num v
 
--- demands 2 and 3 of lengths over one denominator: every edge's sum of remainders is zero, the fit is a minimum, and the rounding
--- to thousandths is close to it
+-- RULES, The verdict and Least squares, of lengths over one denominator: every edge's sum of remainders is zero, the
+-- fit is a minimum, and the rounding to thousandths is close to it
 pub record Fits (N : ℕ) (ds ps : List ℕ) (D : ℤ) (n : ℕ → ℤ) : Type 0 where
   pub equations : Equations (pairs N) (length ps) (partsOf ps) (distance N ds) D n
   pub minimum : Minimum (pairs N) (length ps) (partsOf ps) (distance N ds) D n Any
@@ -49,7 +49,7 @@ pub record Fits (N : ℕ) (ds ps : List ℕ) (D : ℤ) (n : ℕ → ℤ) : Type 
 abbrev pub maxBottom : ℕ
 maxBottom = 134217728
 
--- what holds of a resolved tree's lengths: they are in lowest terms, over at most 134,217,728, and demands 2 and 3 hold of them
+-- what holds of a resolved tree's lengths: they are in lowest terms, over at most 134,217,728, and they fit
 -- over any common denominator
 pub record Direct (N : ℕ) (ds ps : List ℕ) : Type 0 where
   pub lowest : (v : ℕ) → v < length ps → Lowest (lengthOf N ds ps v) (topOf N ds ps v) (bottomOf N ds ps v)

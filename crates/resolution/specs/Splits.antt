@@ -1,6 +1,7 @@
--- K11's lengths by split sums. At a vertex of degree three the distances between two of its directions are half of their split
--- sums together less the third's, and K11's weight L makes the lengths depend on such sums alone: those between A and B, between
--- either of them and all that is beyond the edge, and the same at the other end.
+-- The lengths of RULES, Resolved trees by split sums. At a vertex of degree three the distances between two of its
+-- directions are half of their split sums together less the third's, and the weight L makes the lengths depend on such
+-- sums alone: those between A and B, between either of them and all that is beyond the edge, and the same at the other
+-- end.
 use mathlib.Core.Path.{_≡_}
 use mathlib.Core.Bool.{cond}
 use mathlib.Core.List.{List}

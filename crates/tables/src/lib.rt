@@ -16,9 +16,9 @@ ghost use Rattle.paths.specs.Standing.{Standing, Small};
 ghost use Rattle.tables.specs.Answers.{SplitTable, SplitAnswer, PathsAnswer};
 
 // The split sum of each edge, then zeros. Over a denominator of 1 and no lengths a remainder is the distance itself,
-// so the steps of `edge_sums` are those of Bryant and Waddell (document 000): an outer edge has its strain's row sum
-// (equation 9); an inner edge has its children's split sums together, less twice the distances between different
-// children's clusters (equation 14, and 10 for two children).
+// so the steps of `edge_sums` are those of Bryant and Waddell (1998; RULES, Split sums by cases): an outer edge has its
+// strain's row sum (equation 9); an inner edge has its children's split sums together, less twice the distances between
+// different children's clusters (equation 14, and 10 for two children).
 pub fn split(
     n: usize,
     distances: &[u16],

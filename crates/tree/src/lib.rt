@@ -109,7 +109,7 @@ pub fn some_children_out(n: usize, parents: &[u8], spare: u8) -> bool
     count_out(counts[edges], 3, spare)
 }
 
-// The number of a table of parents, or 0: the tests of document 01 in their order.
+// The number of a table of parents, or 0: the tests in their order (RULES, Numbers of refusal).
 pub fn check_tree(n: u32, parents: &[u8]) -> Verdict
     ensures { λ r. ⌜ numberOf r ≡ treeNumber n (now (parents .entry)) ⌝ }
 {

@@ -1,4 +1,4 @@
--- The check answers 0 exactly for the trees that document 01 allows.
+-- The check answers 0 exactly for the trees that RULES, The tree allows.
 use mathlib.Core.Path.{_≡_}
 use mathlib.Core.List.{List}
 use Prim.Native.Nat.{ℕ, _+_, _≤_, _<_}

@@ -16,7 +16,7 @@ use Rattle.matrix.specs.Tests.{strainsOut}
 use Rattle.trees.specs.Chain.{parentOf}
 use Rattle.trees.specs.Tests.{verticesOut, parentOut, childrenFew, treeNumber}
 
--- the strains and vertices are as many as document 01 allows
+-- the strains and vertices are as many as RULES, The tree allows
 pub record Sized (N K : ℕ) : Type 0 where
   pub three : minStrains ≤ N
   pub few : N ≤ maxStrains

@@ -1,4 +1,4 @@
--- The trees that document 01 allows: N strains, V = K + 1 vertices, K edges, the root K.
+-- The trees that are allowed (RULES, The tree): N strains, V = K + 1 vertices, K edges, the root K.
 use Prim.Native.Nat.{ℕ, _+_, _-_, _*_, _≤_, _<_}
 use Rattle.verdict.specs.Table.{count}
 use Rattle.matrix.specs.Limits.{minStrains, maxStrains}

@@ -1,4 +1,4 @@
--- The tests of a tree, in document 01's order. V is one more than the entries of the parent table.
+-- The tests of a tree, in their order (RULES, Numbers of refusal). V is one more than the entries of the parent table.
 use mathlib.Core.Bool.{Bool, false, cond, _||_}
 use mathlib.Core.List.{List}
 use Prim.Native.Nat.{ℕ, _+_, _-_, _*_}

@@ -1,4 +1,5 @@
--- Document 01's numbers of refusal: which number an answer stands for, and how several tests give one number.
+-- The numbers of refusal (RULES, Numbers of refusal): which number an answer stands for, and how several tests give one
+-- number.
 use mathlib.Core.Bool.{Bool, true, false}
 use Prim.Native.Nat.{ℕ, zero, suc}
 use Rattle.verdict.specs.declared.Reason.{Reason}

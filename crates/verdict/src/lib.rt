@@ -1,9 +1,9 @@
 // The answer that every test of a sheet, a table or a buffer gives. `numberOf`, in specs/Number.antt,
-// says which of document 01's numbers each case stands for; contracts speak of answers through it.
+// says which number of refusal (RULES, Numbers of refusal) each case stands for; contracts speak of answers through it.
 ghost use mathlib.Core.Path.{_≡_};
 ghost use Rattle.verdict.specs.Number.{numberOf, refusalOf, _orElse_};
 
-// Why something is refused: a case for each of document 01's numbers of refusal, in its order, and 25
+// Why something is refused: a case for each number of refusal, 1 to 15 in their order, and 25
 // for a tree that is not resolved.
 pub enum Reason {
     SheetTooLong,
