@@ -1,4 +1,7 @@
-// What stands around a program on a sheet: room for its bytes, standard input and standard output.
+// What stands around a program on a sheet: room for its bytes, standard input and standard output. A program has
+// no exit status to give: where reading or writing fails it says so on standard error, and what it wrote to
+// standard output is then no whole answer.
+use libc::STDERR_FILENO;
 use libc::STDIN_FILENO;
 use libc::STDOUT_FILENO;
 use records::Layout;
@@ -8,6 +11,12 @@ ghost use lib.ListN.{length};
 ghost use Rattle.io.specs.Counts.{Counts};
 ghost use Rattle.records.specs.Form.{maxSheet};
 
+// What came of reading: how many bytes stand at the front of the buffer, and whether no read failed.
+pub struct Taken {
+    pub count: usize,
+    pub whole: bool,
+}
+
 // Zeros, one byte more than a sheet may have: whatever follows, a longer one is refused for its length.
 pub fn room() -> [u8; Layout::MAX_SHEET + 1]
     ensures { λ r. ⌜ maxSheet + 1 ≡ length r ⌝ }
@@ -15,16 +24,43 @@ pub fn room() -> [u8; Layout::MAX_SHEET + 1]
     [0; Layout::MAX_SHEET + 1]
 }
 
-// Fills a buffer from standard input until it is full or the input ends; how many bytes it put at the front.
-pub fn take_in(space: &mut [u8]) -> usize
-    ensures { λ r. ⌜ Counts r (now (space .exit)) ⌝ }
+// Fills a buffer from standard input until it is full, the input ends or a read fails, which it says.
+pub fn take_in(space: &mut [u8]) -> Taken
+    ensures { λ r. ⌜ Counts (r .count) (now (space .exit)) ⌝ }
 {
-    io::read_full(STDIN_FILENO, space)
+    let mut count = 0;
+    while count < space.len() {
+        let got = libc::read(STDIN_FILENO, &mut space[count..]);
+        if got < 0 {
+            io::write_all(STDERR_FILENO, b"standard input could not be read\n");
+            return Taken {
+                count: count,
+                whole: false,
+            };
+        }
+        let more = io::count(got, &space[count..]);
+        if more == 0 {
+            return Taken {
+                count: count,
+                whole: true,
+            };
+        }
+        count += more;
+    }
+    Taken {
+        count: count,
+        whole: true,
+    }
 }
 
-// Writes so many bytes from the front of a text to standard output; whether all of them went out.
+// Writes so many bytes from the front of a text to standard output, or says that it could not; whether all of them
+// went out.
 pub fn put_out(count: usize, text: &[u8]) -> bool
     requires { ⌜ count ≤ length (now text) ⌝ }
 {
-    io::write_all(STDOUT_FILENO, &text[..count])
+    let written = io::write_all(STDOUT_FILENO, &text[..count]);
+    if !written {
+        io::write_all(STDERR_FILENO, b"standard output could not be written\n");
+    }
+    written
 }

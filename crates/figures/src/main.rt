@@ -47,12 +47,12 @@ fn text_of(kind: u8, sheet: &[u8], text: &mut [u8]) -> usize
     prints::unfitted_text(sheet, text)
 }
 
-// Writes the print of a sheet out, in one line.
-fn print_line(kind: u8, sheet: &[u8]) {
+// Writes the print of a sheet out, in one line; whether it went out.
+fn print_line(kind: u8, sheet: &[u8]) -> bool {
     let mut text = prints::page();
     let written = text_of(kind, sheet, &mut text);
     in_one_line(&mut text, written);
-    desk::put_out(written, &text);
+    desk::put_out(written, &text)
 }
 
 // A byte as a wider number.
@@ -75,20 +75,24 @@ fn length_at(s: &[u8], at: usize) -> usize
     left
 }
 
-// A line for each sheet.
+// A line for each sheet, up to the first that cannot be written.
 fn print_all(s: &[u8]) {
     let mut at = 0;
     while at + 4 <= s.len() {
         let size = length_at(s, at);
         let start = at + 4;
         let end = start + size;
-        print_line(s[at + 3], &s[start..end]);
+        if !print_line(s[at + 3], &s[start..end]) {
+            return;
+        }
         at = end;
     }
 }
 
 fn main() {
     let mut space = room();
-    let got = desk::take_in(&mut space);
-    print_all(&space[..got]);
+    let taken = desk::take_in(&mut space);
+    if taken.whole {
+        print_all(&space[..taken.count]);
+    }
 }

@@ -1,7 +1,11 @@
-// Reads a sheet from standard input and prints its report, or `refused` and the number.
+// Reads a sheet from standard input and prints its report, or `refused` and the number. Where reading fails it
+// prints nothing.
 fn main() {
     let mut space = desk::room();
-    let got = desk::take_in(&mut space);
+    let taken = desk::take_in(&mut space);
+    if !taken.whole {
+        return;
+    }
     let mut text = prints::page();
-    desk::put_out(prints::sheet_text(&space[..got], &mut text), &text);
+    desk::put_out(prints::sheet_text(&space[..taken.count], &mut text), &text);
 }

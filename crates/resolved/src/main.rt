@@ -1,8 +1,14 @@
 // Reads a sheet without lengths from standard input and prints the direct fit of its tree, or `refused` and the
-// number.
+// number. Where reading fails it prints nothing.
 fn main() {
     let mut space = desk::room();
-    let got = desk::take_in(&mut space);
+    let taken = desk::take_in(&mut space);
+    if !taken.whole {
+        return;
+    }
     let mut text = prints::page();
-    desk::put_out(prints::unfitted_text(&space[..got], &mut text), &text);
+    desk::put_out(
+        prints::unfitted_text(&space[..taken.count], &mut text),
+        &text,
+    );
 }

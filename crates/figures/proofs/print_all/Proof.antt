@@ -44,14 +44,17 @@ part-print-line-end c = search needs
 print-line-requires : tie.Need-print-line-requires Inv-loop μ-loop
 print-line-requires c κs = search needs
 
+returns : tie.Need-returns Inv-loop μ-loop
+returns c = search needs
+
 loop-less : tie.Need-loop-less Inv-loop μ-loop
 loop-less c = search needs
 
 loop-again : tie.Need-loop-again Inv-loop μ-loop
 loop-again c = search needs
 
-returns : tie.Need-returns Inv-loop μ-loop
-returns c = search needs
+returns-2 : tie.Need-returns-2 Inv-loop μ-loop
+returns-2 c = search needs
 
 pub print-all-spec : {M : Type 1} → statement M
 print-all-spec =
@@ -70,6 +73,7 @@ print-all-spec =
     part-print-line-start
     part-print-line-end
     print-line-requires
+    returns
     loop-less
     loop-again
-    returns)
+    returns-2)
