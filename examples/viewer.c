@@ -1,7 +1,9 @@
 /* A small bench viewer: prints for each sheet named on the command line its name and its verdict in
  * words. Built with
  *     rt staticlib sheet
- *     cc -Iinclude examples/viewer.c target/staticlib/libsheet.a -o viewer      (on x86-64) */
+ *     cc -Iinclude examples/viewer.c target/staticlib/libsheet.a -o viewer      (on x86-64)
+ * It ends with 0 where every sheet was accepted, with 1 where one was refused, and with 2 where one could not be
+ * read or the verdicts could not be written. */
 #include <stdio.h>
 #include <stdlib.h>
 
@@ -28,24 +30,44 @@ static const char *const words[] = {
 /* One byte more than a sheet may have is enough to know that it is too long. */
 enum { READ_AT_MOST = 5188 };
 
-int main(int count, char **names) {
-    int refused = 0;
-    for (int i = 1; i < count; i++) {
-        static unsigned char bytes[READ_AT_MOST];
-        FILE *file = fopen(names[i], "rb");
-        if (file == NULL) {
-            perror(names[i]);
-            return 2;
-        }
-        size_t length = fread(bytes, 1, sizeof bytes, file);
-        fclose(file);
-        uint32_t number = sheet_verdict(bytes, length);
-        if (number == VAMUTHEXA_ACCEPTED) {
-            printf("%s: %s\n", names[i], words[0]);
-        } else {
-            printf("%s: refused %u, %s\n", names[i], (unsigned)number, number < 15 ? words[number] : "unknown");
-            refused = 1;
-        }
+/* The verdict on one file: 0 accepted, 1 refused, 2 not read. */
+static int show(const char *name) {
+    static unsigned char bytes[READ_AT_MOST];
+    FILE *file = fopen(name, "rb");
+    if (file == NULL) {
+        perror(name);
+        return 2;
     }
-    return refused;
+    size_t length = fread(bytes, 1, sizeof bytes, file);
+    if (ferror(file)) {
+        perror(name);
+        fclose(file);
+        return 2;
+    }
+    fclose(file);
+    uint32_t number = sheet_verdict(bytes, length);
+    if (number == VAMUTHEXA_ACCEPTED) {
+        printf("%s: %s\n", name, words[0]);
+        return 0;
+    }
+    printf("%s: refused %u, %s\n", name, (unsigned)number, number < 15 ? words[number] : "unknown");
+    return 1;
+}
+
+int main(int count, char **names) {
+    if (count < 2) {
+        fprintf(stderr, "Usage: viewer SHEET...\nPrints the verdict on each sheet that is named.\n");
+        return 2;
+    }
+    int worst = 0;
+    for (int i = 1; i < count; i++) {
+        int status = show(names[i]);
+        if (status > worst)
+            worst = status;
+    }
+    if (fflush(stdout) != 0 || ferror(stdout)) {
+        perror("standard output");
+        return 2;
+    }
+    return worst;
 }

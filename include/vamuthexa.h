@@ -1,4 +1,4 @@
-/* The verdict on a sheet and the direct fit of a resolved tree, for programs in C. Both functions are proved: for
+/* The verdict on a sheet and the direct fit of a resolved tree, for programs in C and C++. Both functions are proved: for
  * whatever they are lent they return 0 where it is accepted and otherwise the number of refusal, and they read and
  * write nothing outside it. Link with libsheet.a, or with libresolving.a for the fit. */
 #ifndef VAMUTHEXA_H
@@ -6,6 +6,10 @@
 
 #include <stddef.h>
 #include <stdint.h>
+
+#ifdef __cplusplus
+extern "C" {
+#endif
 
 enum vamuthexa_number {
     VAMUTHEXA_ACCEPTED = 0,
@@ -38,5 +42,9 @@ uint32_t sheet_verdict(const uint8_t *sheet, size_t length);
 uint32_t resolved_lengths(uint32_t n, const uint16_t *distances, size_t distance_count, const uint8_t *parents,
                           size_t parent_count, int64_t *numerators, size_t numerator_count, uint32_t *denominators,
                           size_t denominator_count, int64_t *rounded, size_t rounded_count);
+
+#ifdef __cplusplus
+}
+#endif
 
 #endif
