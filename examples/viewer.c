@@ -1,11 +1,13 @@
 /* A small bench viewer: prints for each sheet named on the command line its name and its verdict in
- * words. Built with
+ * words; with --print, or -p, its name and its whole print, which is the report or the refusal with its place.
+ * Built, on x86-64, with
  *     rt staticlib sheet
- *     cc -Iinclude examples/viewer.c target/staticlib/libsheet.a -o viewer      (on x86-64)
+ *     rt staticlib prints
+ *     cc -Iinclude examples/viewer.c target/staticlib/libprints.a target/staticlib/libsheet.a -o viewer
  * It ends with 0 where every sheet was accepted, with 1 where one was refused, and with 2 where one could not be
  * read or the verdicts could not be written. */
 #include <stdio.h>
-#include <stdlib.h>
+#include <string.h>
 
 #include "vamuthexa.h"
 
@@ -19,19 +21,21 @@ static const char *const words[] = {
     "the number of strains is not 3 to 64",
     "a distance is above 50,000",
     "the tree is for another number of strains, or has too few or too many vertices",
-    "a parent is not above its child, is a strain, or is past the root",
+    "a parent is not above its child, or is a strain",
     "an inner vertex has too few children",
     "there is not one numerator for each edge",
     "the denominator is not 1 to 1,000,000",
     "a numerator is beyond its range",
     "the lengths are not the fit: for some edge observed and tree distance differ in sum",
+    "a lent buffer does not have the exact length",
+    "a parent is past the root",
 };
 
 /* One byte more than a sheet may have is enough to know that it is too long. */
 enum { READ_AT_MOST = 5188 };
 
-/* The verdict on one file: 0 accepted, 1 refused, 2 not read. */
-static int show(const char *name) {
+/* The verdict on one file, or its print: 0 accepted, 1 refused, 2 not read. */
+static int show(const char *name, int whole) {
     static unsigned char bytes[READ_AT_MOST];
     FILE *file = fopen(name, "rb");
     if (file == NULL) {
@@ -46,22 +50,31 @@ static int show(const char *name) {
     }
     fclose(file);
     uint32_t number = sheet_verdict(bytes, length);
+    if (whole) {
+        static uint8_t page[VAMUTHEXA_PAGE];
+        size_t written = sheet_print(bytes, length, page, sizeof page);
+        printf("%s:\n", name);
+        fwrite(page, 1, written, stdout);
+        return number != VAMUTHEXA_ACCEPTED;
+    }
     if (number == VAMUTHEXA_ACCEPTED) {
         printf("%s: %s\n", name, words[0]);
         return 0;
     }
-    printf("%s: refused %u, %s\n", name, (unsigned)number, number < 15 ? words[number] : "unknown");
+    printf("%s: refused %u, %s\n", name, (unsigned)number, number < sizeof words / sizeof words[0] ? words[number] : "unknown");
     return 1;
 }
 
 int main(int count, char **names) {
-    if (count < 2) {
-        fprintf(stderr, "Usage: viewer SHEET...\nPrints the verdict on each sheet that is named.\n");
+    int whole = count > 1 && (strcmp(names[1], "--print") == 0 || strcmp(names[1], "-p") == 0);
+    if (count < 2 + whole) {
+        fprintf(stderr, "Usage: viewer [--print] SHEET...\nPrints the verdict on each sheet that is named; with --print, or -p,\n"
+                        "its report or its refusal with the place.\n");
         return 2;
     }
     int worst = 0;
-    for (int i = 1; i < count; i++) {
-        int status = show(names[i]);
+    for (int i = 1 + whole; i < count; i++) {
+        int status = show(names[i], whole);
         if (status > worst)
             worst = status;
     }

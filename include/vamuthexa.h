@@ -1,6 +1,6 @@
-/* The verdict on a sheet and the direct fit of a resolved tree, for programs in C and C++. Both functions are proved: for
- * whatever they are lent they return 0 where it is accepted and otherwise the number of refusal, and they read and
- * write nothing outside it. Link with libsheet.a, or with libresolving.a for the fit. */
+/* The verdict on a sheet, the direct fit of a resolved tree, and the prints of sheets, for programs in C and C++. Every
+ * function is proved: it answers whatever it is lent, and reads and writes nothing outside that. Link with libsheet.a
+ * for the verdict, libresolving.a for the fit, libprints.a for the prints; where several are wanted, libprints.a first. */
 #ifndef VAMUTHEXA_H
 #define VAMUTHEXA_H
 
@@ -21,22 +21,36 @@ enum vamuthexa_number {
     VAMUTHEXA_STRAINS = 6,        /* matrix N not 3 to 64 */
     VAMUTHEXA_DISTANCE = 7,       /* a distance above 50,000 */
     VAMUTHEXA_VERTICES = 8,       /* the tree's N differs from the matrix's, or V not N+1 to 2N-2 */
-    VAMUTHEXA_PARENT = 9,         /* a parent not greater than its child, below N or above V-1 */
+    VAMUTHEXA_PARENT = 9,         /* a parent not greater than its child or below N */
     VAMUTHEXA_CHILDREN = 10,      /* an inner vertex with too few children */
     VAMUTHEXA_EDGES = 11,         /* K not V-1 */
     VAMUTHEXA_DENOMINATOR = 12,   /* D not 1 to 1,000,000 */
     VAMUTHEXA_NUMERATOR = 13,     /* a numerator beyond its range */
     VAMUTHEXA_REMAINDERS = 14,    /* some edge's sum of remainders is not zero: not the fit */
     VAMUTHEXA_BUFFER = 15,        /* a lent result buffer not of the exact length; never for a sheet */
+    VAMUTHEXA_PAST_ROOT = 16,     /* a parent above V-1; of 9 and 16 the one at the lowest vertex */
     VAMUTHEXA_UNRESOLVED = 25     /* some inner vertex not of degree three; never for a sheet with lengths */
 };
 
 /* The number of the sheet in the bytes at `sheet`; `length` may be 0. */
 uint32_t sheet_verdict(const uint8_t *sheet, size_t length);
 
+/* The bytes of a page. Every print fits one. */
+enum { VAMUTHEXA_PAGE = 16384 };
+
+/* Writes to the front of `text` what the program `report` prints of the sheet: its report, or the line with the number
+ * and the place of its refusal, as `refused 14 edge 0 2`. Each line ends in LF; no zero follows the last. Returns how
+ * many bytes were written, at most VAMUTHEXA_PAGE, and leaves all behind them as it was. Where `size`, the bytes that
+ * are lent at `text`, is below VAMUTHEXA_PAGE, it writes nothing and returns 0. The two buffers may not overlap. Link
+ * with libprints.a. */
+size_t sheet_print(const uint8_t *sheet, size_t length, uint8_t *text, size_t size);
+
+/* The same for a sheet without lengths, as the program `resolved` prints it. */
+size_t unfitted_print(const uint8_t *sheet, size_t length, uint8_t *text, size_t size);
+
 /* The lengths of a resolved tree of n strains that fit the distances best. Every table comes as a pointer and how
  * many entries it has: n(n-1)/2 distances, one parent for each of K edges, and three buffers of K entries for the
- * numerators and denominators in lowest terms and for the lengths in thousandths. The number is 4, 6 to 10, 25 or
+ * numerators and denominators in lowest terms and for the lengths in thousandths. The number is 4, 6 to 10, 16, 25 or
  * 15, or 0 where the buffers are filled; otherwise they are as they were. No buffer may overlap another, nor a
  * table that is lent beside it. Link with libresolving.a. */
 uint32_t resolved_lengths(uint32_t n, const uint16_t *distances, size_t distance_count, const uint8_t *parents,

@@ -1,6 +1,8 @@
-/* Compares `sheet_verdict` with the two plain readings on many sheets: empty, every length, valid, cut, one
- * byte changed, fields at and past their limits. Each sheet is lent at the very end of a page that is
- * followed by one that cannot be read, so that a read past the slice ends the program. */
+/* Compares `sheet_verdict` and `sheet_print` with the two plain readings on many sheets: empty, every length, valid,
+ * cut, one byte changed, fields at and past their limits. The print of a refused sheet must be the plain readings'
+ * line, place and all; of an accepted one only its first word and its last byte are looked at here (the program
+ * `figures` compares whole reports). Each sheet, and the text's page, is lent at the very end of a page that is
+ * followed by one that cannot be read, so that a step past the slice ends the program. */
 #include <stdio.h>
 #include <stdlib.h>
 #include <string.h>
@@ -12,24 +14,63 @@
 
 enum { ROOM = 65536 };
 
-static uint8_t *edge; /* the first byte that cannot be read */
-static unsigned long passed, failed, seen[16];
+enum { NUMBERS = 17, UNTOUCHED = 0xa5 };
+
+static uint8_t *edge, *text_end; /* the first bytes that cannot be read */
+static unsigned long passed, failed, seen[NUMBERS];
+
+/* Every byte from `from` on is as it was before the print. */
+static int untouched(const uint8_t *text, size_t from, size_t size) {
+    for (size_t i = from; i < size; i++) {
+        if (text[i] != UNTOUCHED) {
+            return 0;
+        }
+    }
+    return 1;
+}
+
+/* The print is the line, or where the line is empty some report; and nothing stands behind it. */
+static int prints(const uint8_t *lent, size_t length, const char *line) {
+    uint8_t *text = text_end - VAMUTHEXA_PAGE;
+    memset(text, UNTOUCHED, VAMUTHEXA_PAGE);
+    size_t written = sheet_print(lent, length, text, VAMUTHEXA_PAGE);
+    if (written > VAMUTHEXA_PAGE || !untouched(text, written, VAMUTHEXA_PAGE)) {
+        return 0;
+    }
+    if (line[0] == 0) {
+        return written > 4 && memcmp(text, "fit ", 4) == 0 && text[written - 1] == '\n';
+    }
+    return written == strlen(line) && memcmp(text, line, written) == 0;
+}
+
+/* A page that is too small stays as it was. */
+static int leaves(const uint8_t *lent, size_t length, size_t size) {
+    uint8_t *text = text_end - size;
+    memset(text, UNTOUCHED, size);
+    return sheet_print(lent, length, text, size) == 0 && untouched(text, 0, size);
+}
 
 static void lend_and_compare(const uint8_t *sheet, size_t length) {
+    char triple_line[PLAIN_LINE], pass_line[PLAIN_LINE];
     uint8_t *lent = edge - length;
     memcpy(lent, sheet, length);
     uint32_t ours = sheet_verdict(lent, length);
-    uint32_t triple = plain_triple(sheet, length);
-    uint32_t pass = plain_pass(sheet, length);
-    if (ours == triple && ours == pass && memcmp(lent, sheet, length) == 0) {
+    uint32_t triple = plain_triple_line(sheet, length, triple_line);
+    uint32_t pass = plain_pass_line(sheet, length, pass_line);
+    int printed = strcmp(triple_line, pass_line) == 0 && prints(lent, length, triple_line);
+    if ((passed + failed) % 1024 == 0) {
+        printed &= leaves(lent, length, VAMUTHEXA_PAGE - 1) && leaves(lent, length, 0);
+    }
+    if (ours == triple && ours == pass && printed && memcmp(lent, sheet, length) == 0) {
         passed++;
     } else {
         failed++;
         if (failed <= 10) {
-            printf("sheet of %zu bytes: ours %u, triple %u, pass %u\n", length, (unsigned)ours, (unsigned)triple, (unsigned)pass);
+            printf("sheet of %zu bytes: ours %u, triple %u, pass %u; the print is %s %s", length, (unsigned)ours, (unsigned)triple,
+                   (unsigned)pass, printed ? "as due:" : "not as due:", triple_line[0] == 0 ? "a report\n" : triple_line);
         }
     }
-    if (ours < 16) {
+    if (ours < NUMBERS) {
         seen[ours]++;
     }
 }
@@ -191,16 +232,22 @@ static void strain_limits(struct parts *p) {
     }
 }
 
+/* The end of some room that is followed by a page that cannot be read. */
+static uint8_t *guarded(void) {
+    size_t page = (size_t)sysconf(_SC_PAGESIZE);
+    uint8_t *map = mmap(NULL, ROOM + page, PROT_READ | PROT_WRITE, MAP_PRIVATE | MAP_ANONYMOUS, -1, 0);
+    if (map == MAP_FAILED || mprotect(map + ROOM, page, PROT_NONE) != 0) {
+        perror("a page that cannot be read");
+        exit(2);
+    }
+    return map + ROOM;
+}
+
 int main(void) {
     static uint8_t sheet[ROOM];
     static struct parts p;
-    long page = sysconf(_SC_PAGESIZE);
-    uint8_t *map = mmap(NULL, ROOM + (size_t)page, PROT_READ | PROT_WRITE, MAP_PRIVATE | MAP_ANONYMOUS, -1, 0);
-    if (map == MAP_FAILED || mprotect(map + ROOM, (size_t)page, PROT_NONE) != 0) {
-        perror("a page that cannot be read");
-        return 2;
-    }
-    edge = map + ROOM;
+    edge = guarded();
+    text_end = guarded();
     /* every length from 0 to 5,200: zeros, chance, and the longest valid sheet cut or drawn out */
     caterpillar(&p);
     fit(&p);
@@ -258,12 +305,12 @@ int main(void) {
             lend_and_compare(sheet, write_sheet(&twin, sheet));
         }
     }
-    for (int k = 0; k < 16; k++) {
-        printf("%s%lu", k == 0 ? "answers 0 to 15: " : " ", seen[k]);
+    for (int k = 0; k < NUMBERS; k++) {
+        printf("%s%lu", k == 0 ? "answers 0 to 16: " : " ", seen[k]);
     }
     printf("\n");
-    for (int k = 0; k < 15; k++) {
-        if (seen[k] == 0) {
+    for (int k = 0; k < NUMBERS; k++) {
+        if (seen[k] == 0 && k != VAMUTHEXA_BUFFER) {
             printf("no sheet got %d\n", k);
             failed++;
         }

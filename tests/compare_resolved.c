@@ -1,8 +1,11 @@
-/* Compares the proved direct fit with the plain reading on resolved trees of every size, and tries what it
- * must refuse: each with its number, and every buffer as it was. Last line: 'N passed, M failed'. */
+/* Compares the proved direct fit with the plain reading on resolved trees of every size, by tables and by the print of
+ * a sheet without lengths, and tries what it must refuse: each with its number, or with the whole line of its print,
+ * and every buffer as it was. Last line: 'N passed, M failed'. */
+#include <inttypes.h>
 #include <stdio.h>
 #include <string.h>
 
+#include "plain.h"
 #include "resolved.h"
 #include "trees.h"
 #include "vamuthexa.h"
@@ -33,6 +36,85 @@ static void refuses(uint32_t number, uint32_t n, const uint16_t *d, size_t pairs
     count(got == number && memcmp(&b, &was, sizeof b) == 0, "a refusal", n);
 }
 
+/* ---- the print of a sheet without lengths */
+static size_t put(uint8_t *at, uint64_t x, int bytes) {
+    for (int i = 0; i < bytes; i++) {
+        at[i] = (uint8_t)(x >> (8 * i));
+    }
+    return (size_t)bytes;
+}
+
+static size_t write_bare(uint8_t *out, uint32_t n, const uint16_t *d, const uint8_t *parents, uint32_t k) {
+    size_t at = 0;
+    at += put(out + at, 2 + n * (n - 1), 4);
+    at += put(out + at, 1, 2);
+    at += put(out + at, n, 2);
+    for (uint32_t p = 0; p < n * (n - 1) / 2; p++) {
+        at += put(out + at, d[p], 2);
+    }
+    at += put(out + at, 4 + k, 4);
+    at += put(out + at, 2, 2);
+    at += put(out + at, n, 2);
+    at += put(out + at, k + 1, 2);
+    memcpy(out + at, parents, k);
+    return at + k;
+}
+
+static size_t write_fit(char *out, uint32_t n, const struct buffers *b, const uint64_t square[2]) {
+    uint32_t k = 2 * n - 3;
+    char *at = out + sprintf(out, "resolved %u %u\n", (unsigned)n, (unsigned)k);
+    for (uint32_t v = 0; v < k; v++) {
+        at += sprintf(at, "edge %u %" PRId64 " %" PRIu32 " %" PRId64 "\n", (unsigned)v, b->tops[v], b->bottoms[v], b->rounded[v]);
+    }
+    at += sprintf(at, "square %" PRIu64 " %" PRIu64 "\n", square[0], square[1]);
+    return (size_t)(at - out);
+}
+
+/* The print is this text, or begins with it, and all behind it is as it was. */
+static void prints(const uint8_t *sheet, size_t length, const char *text, size_t size, int whole, const char *what, uint32_t n) {
+    static uint8_t page[VAMUTHEXA_PAGE];
+    memset(page, 0xa5, sizeof page);
+    size_t written = unfitted_print(sheet, length, page, sizeof page);
+    int fine = written <= sizeof page && (whole ? written == size : written > size) && memcmp(page, text, size) == 0;
+    for (size_t i = written; fine && i < sizeof page; i++) {
+        fine = page[i] == 0xa5;
+    }
+    count(fine, what, n);
+}
+
+static void prints_damaged(const uint8_t *sheet, size_t length, uint32_t n) {
+    char line[PLAIN_LINE];
+    if (plain_unfitted_line(sheet, length, line) == 0) {
+        prints(sheet, length, "resolved ", 9, 0, "the print of another fit", n);
+    } else {
+        prints(sheet, length, line, strlen(line), 1, "the print of a refusal", n);
+    }
+}
+
+/* A fit's print, and those of the sheet cut, drawn out, with a byte changed and with parents changed. */
+static void print_all(uint32_t n, const uint16_t *d, const uint8_t *parents, const struct buffers *plain, const uint64_t square[2]) {
+    static uint8_t sheet[VAMUTHEXA_PAGE];
+    static char text[VAMUTHEXA_PAGE];
+    uint32_t k = 2 * n - 3;
+    size_t length = write_bare(sheet, n, d, parents, k);
+    prints(sheet, length, text, write_fit(text, n, plain, square), 1, "the print of a fit", n);
+    count(unfitted_print(sheet, length, sheet + length, VAMUTHEXA_PAGE - length) == 0, "a page that is too small", n);
+    prints_damaged(sheet, chance((uint32_t)length), n);
+    sheet[length] = 0;
+    prints_damaged(sheet, length + 1, n);
+    for (int turn = 0; turn < 4; turn++) {
+        size_t tree = length - k - 10, place = turn == 0 ? chance((uint32_t)length) : turn == 1 ? tree + chance(10) : length - 1 - chance(k);
+        uint8_t old = sheet[place];
+        sheet[place] = (uint8_t)(turn < 2 ? chance(256) : n + chance(n));
+        prints_damaged(sheet, length, n);
+        if (turn == 3) {
+            sheet[length - 1 - chance(k)] = (uint8_t)chance(2 * n);
+            prints_damaged(sheet, length, n);
+        }
+        sheet[place] = old;
+    }
+}
+
 int main(void) {
     static uint16_t d[2016];
     uint8_t parents[128];
@@ -49,6 +131,7 @@ int main(void) {
         plain_resolved(n, d, parents, plain.tops, plain.bottoms, plain.rounded, square);
         uint32_t got = resolved_lengths(n, d, pairs, parents, k, ours.tops, k, ours.bottoms, k, ours.rounded, k);
         count(got == 0 && memcmp(&ours, &plain, sizeof ours) == 0, "a fit", n);
+        print_all(n, d, parents, &plain, square);
         refuses(4, n, d, pairs - 1, parents, k, k, k, k);
         refuses(15, n, d, pairs, parents, k, k - 1, k, k);
         refuses(15, n, d, pairs, parents, k, k, k + 1, k);
@@ -61,7 +144,16 @@ int main(void) {
         uint8_t first = parents[0];
         parents[0] = 0;
         refuses(9, n, d, pairs, parents, k, k, k, k);
+        parents[0] = (uint8_t)(k + 1);
+        refuses(16, n, d, pairs, parents, k, k, k, k);
+        uint8_t second = parents[1];
+        parents[1] = 0;
+        refuses(16, n, d, pairs, parents, k, k, k, k);
+        parents[0] = 0;
+        parents[1] = 255;
+        refuses(9, n, d, pairs, parents, k, k, k, k);
         parents[0] = first;
+        parents[1] = second;
         if (n > 3) {
             memset(parents, (int)n, n);
             refuses(25, n, d, pairs, parents, n, n, n, n);

@@ -1,6 +1,6 @@
 #!/usr/bin/env python3
 """Writes the input of the program `figures` and what it must print: the figures of RULES, Bench figures
-that are not starred, with both sides of each limit; fits of the exact solver on trees of every kind, and of
+that are not starred, with both sides of each limit; sheets with several faults, of which the lowest is the place; fits of the exact solver on trees of every kind, and of
 each a damaged twin; the worked example of Bryant and Waddell (1998) and the data of Felsenstein's (1997) Table 1;
 and for the direct fit every resolved tree of up to six strains, random ones, caterpillars and balanced ones up
 to 64, with the exact solver's lengths, and sheets without lengths that are refused.
@@ -242,7 +242,7 @@ def limits():
         yield reading.sheet(n, distances, changed, d, [1] * len(changed))
     yield reading.sheet(n, distances, parents, d, numerators[:4])
     yield reading.sheet(n, distances, parents, d, numerators + [0])
-    for kinds in ((2, 1, 3), (1, 3, 2), (1, 2, 4), (257, 2, 3)):
+    for kinds in ((2, 1, 3), (1, 3, 2), (1, 2, 4), (257, 2, 3), (1, 3, 4)):
         records, at = [], 0
         for kind in kinds:
             size, = struct.unpack_from("<I", whole, at)
@@ -251,10 +251,56 @@ def limits():
         yield b"".join(records)
 
 
+# trees of four to six strains with a parent or an inner vertex at fault, most of them at several vertices
+FAULTY = [(4, table) for table in ([0, 6, 5, 5, 5], [6, 0, 5, 5, 5], [4, 4, 3, 255, 4], [4, 4, 255, 3, 4], [5, 5, 5, 5, 255],
+                                   [4, 4, 5, 5, 4], [4, 4, 4, 5, 5], [5, 5, 5, 4, 5], [5, 5, 5, 5, 5])]
+FAULTY += [(6, table) for table in ([8, 8, 8, 8, 6, 7, 8, 8], [6, 6, 8, 8, 8, 7, 8, 8], [6, 6, 6, 7, 7, 7, 8, 8], [6, 6, 7, 8, 8, 8, 8, 9])]
+
+
+def off_at(fields, v, sign):
+    """The fit moved so that every edge but v is in balance."""
+    n, distances, parents, denominator, numerators = fields
+    times, moved = solver.common(solver.solve_sums(n, parents, [int(u == v) for u in range(len(parents))]))
+    out = n, distances, parents, denominator, [x + sign * y for x, y in zip(numerators, moved)]
+    assert reading.edge_sums(*out) == [-sign * times if u == v else 0 for u in range(len(parents))]
+    return out
+
+
+def places():
+    """Sheets of which the place is asked: each record cut or wrong, faults at one vertex or edge and at several."""
+    n, distances, parents, d, numerators = A
+    whole = reading.sheet(*A)
+    starts = (0, 20, 35)
+    for at in starts:
+        for size in (at, at + 5, at + 6, at + 7):
+            yield whole[:size]
+        for changed, value in ((0, whole[at] - 1), (0, whole[at] + 1), (0, 0), (4, 0), (4, 9), (5, 1), (6, whole[at + 6] + 1)):
+            yield whole[:at + changed] + bytes([value]) + whole[at + changed + 1:]
+    yield whole + whole
+    for strains, table in FAULTY:
+        some = [7] * (strains * (strains - 1) // 2)
+        yield reading.sheet(strains, some, table, 1, [10 ** 12] * len(table))
+    far = 10 ** 11 + 1
+    for changed in ({4: far}, {1: far, 3: far}, {0: -far, 4: far}, {2: -2 ** 63, 3: 2 ** 63 - 1}):
+        yield reading.sheet(n, distances, parents, d, [changed.get(v, x) for v, x in enumerate(numerators)])
+    for v in range(5):
+        for change in (-1, 1):
+            yield reading.sheet(n, distances, parents, d, [x + change * (u == v) for u, x in enumerate(numerators)])
+    for fields in (A, table_one()):
+        for v in range(len(fields[2])):
+            for sign in (1, -1):
+                yield reading.sheet(*off_at(fields, v, sign))
+    # the largest sums
+    for sign in (1, -1):
+        parents = table_of(caterpillar(64), 64)
+        yield reading.sheet(64, [50000 * (sign < 0)] * 2016, parents, 1000000, [sign * 10 ** 11] * len(parents))
+
+
 def sheets():
     rng = random.Random(1998)
     out = [reading.sheet(*A)]
     out += list(limits())
+    out += list(places())
     for fields in (worked_example(), table_one()):
         out.append(reading.sheet(*fields))
         out.append(reading.sheet(*damaged(fields, rng)))
@@ -314,7 +360,11 @@ def unfitted():
     out.append(whole[:26] + b"\5" + whole[27:])
     out.append(reading.bare_sheet(4, A[1], [4, 4, 5, 5, 4]))
     out.append(reading.bare_sheet(4, A[1], [5, 5, 5, 4, 5]))
-    for shape, n in ((star(4), 4), ([[0, 1, 2], 3, 4], 5), ([[0, 1], 2, 3, 4], 5), ([[0, 1], [2, 3], 4, 5], 6), (star(64), 64)):
+    for strains, table in FAULTY:
+        out.append(reading.bare_sheet(strains, [7] * (strains * (strains - 1) // 2), table))
+    out += [whole[:20], whole[:25], whole[:24] + b"\3" + whole[25:], whole[:20] + b"\x08" + whole[21:], whole + whole]
+    for shape, n in ((star(4), 4), ([[0, 1, 2], 3, 4], 5), ([[0, 1], 2, 3, 4], 5), ([[0, 1], [2, 3], 4, 5], 6), (star(64), 64),
+                     ([[0, 1, 2], [3, 4, 5], 6], 7), ([[0, 1], [2, 3, 4], 5, 6, 7], 8)):
         out.append(reading.bare_sheet(n, anything(n), table_of(shape, n)))
     return out
 

@@ -1,5 +1,7 @@
 #include "plain.h"
 
+#include <inttypes.h>
+#include <stdio.h>
 #include <string.h>
 
 enum { MAX_N = 64, MAX_V = 2 * MAX_N - 2, MAX_SHEET = 5187 };
@@ -17,13 +19,27 @@ struct sheet {
     const uint8_t *distances, *parents, *numerators;
 };
 
-/* 1 to 5. */
-static uint32_t read_form(const uint8_t *s, size_t length, struct sheet *out) {
+/* Where the fault is; no word where the number has no place, and a sum for 14 alone. */
+struct place {
+    const char *word;
+    size_t at;
+    int64_t sum;
+};
+
+static uint32_t refuse(uint32_t number, struct place *place, const char *word, size_t at) {
+    place->word = word;
+    place->at = at;
+    return number;
+}
+
+/* 1 to 5, over two records or three. */
+static uint32_t read_form(int records, const uint8_t *s, size_t length, struct sheet *out, struct place *place) {
     if (length > MAX_SHEET) {
         return 1;
     }
     size_t at = 0;
-    for (int kind = 1; kind <= 3; kind++) {
+    for (int kind = 1; kind <= records; kind++) {
+        refuse(0, place, "byte", at); /* the place of 2, 3 and 4 */
         if (length - at < 6) {
             return 2;
         }
@@ -68,11 +84,12 @@ static uint32_t read_form(const uint8_t *s, size_t length, struct sheet *out) {
         }
         at += 6 + (size_t)size;
     }
-    return at == length ? 0 : 5;
+    place->word = NULL;
+    return at == length ? 0 : refuse(5, place, "byte", at);
 }
 
-/* 6 to 13; fills the tables. */
-static uint32_t read_held(const struct sheet *s, uint16_t d[], uint8_t parent[], int64_t n[]) {
+/* 6 to 10 and 16; fills the tables. */
+static uint32_t read_front(const struct sheet *s, uint16_t d[], uint8_t parent[], struct place *place) {
     if (s->n < 3 || s->n > MAX_N) {
         return 6;
     }
@@ -89,8 +106,11 @@ static uint32_t read_held(const struct sheet *s, uint16_t d[], uint8_t parent[],
     uint32_t children[MAX_V] = {0};
     for (uint32_t v = 0; v + 1 < s->v; v++) {
         parent[v] = s->parents[v];
-        if (parent[v] <= v || parent[v] < s->n || parent[v] > s->v - 1) {
-            return 9;
+        if (parent[v] <= v || parent[v] < s->n) {
+            return refuse(9, place, "vertex", v);
+        }
+        if (parent[v] >= s->v) {
+            return refuse(16, place, "vertex", v);
         }
     }
     for (uint32_t v = 0; v + 1 < s->v; v++) {
@@ -98,9 +118,14 @@ static uint32_t read_held(const struct sheet *s, uint16_t d[], uint8_t parent[],
     }
     for (uint32_t v = s->n; v < s->v; v++) {
         if (children[v] < (v == s->v - 1 ? 3u : 2u)) {
-            return 10;
+            return refuse(10, place, "vertex", v);
         }
     }
+    return 0;
+}
+
+/* 11 to 13; fills the table. */
+static uint32_t read_lengths(const struct sheet *s, int64_t n[], struct place *place) {
     if (s->k != s->v - 1) {
         return 11;
     }
@@ -110,13 +135,13 @@ static uint32_t read_held(const struct sheet *s, uint16_t d[], uint8_t parent[],
     for (uint32_t v = 0; v < s->k; v++) {
         n[v] = (int64_t)little(s->numerators + 8 * v, 8);
         if (n[v] > 100000000000 || n[v] < -100000000000) {
-            return 13;
+            return refuse(13, place, "edge", v);
         }
     }
     return 0;
 }
 
-static uint32_t triple(struct sheet s, const uint16_t d[], const uint8_t parent[], const int64_t n[]) {
+static uint32_t triple(struct sheet s, const uint16_t d[], const uint8_t parent[], const int64_t n[], struct place *place) {
     static uint8_t below[MAX_V][MAX_N];
     memset(below, 0, sizeof below);
     for (uint32_t i = 0; i < s.n; i++) {
@@ -151,13 +176,14 @@ static uint32_t triple(struct sheet s, const uint16_t d[], const uint8_t parent[
             }
         }
         if (sum != 0) {
-            return 14;
+            place->sum = (int64_t)sum;
+            return refuse(14, place, "edge", v);
         }
     }
     return 0;
 }
 
-static uint32_t pass(struct sheet s, const uint16_t d[], const uint8_t parent[], const int64_t n[]) {
+static uint32_t pass(struct sheet s, const uint16_t d[], const uint8_t parent[], const int64_t n[], struct place *place) {
     /* the strains below each vertex so far, as a list; each strain's way up to the vertex that it is listed at */
     uint8_t list[MAX_V][MAX_N], count[MAX_V] = {0};
     int64_t way[MAX_N] = {0}, sum[MAX_V] = {0}, across[MAX_V] = {0};
@@ -185,31 +211,83 @@ static uint32_t pass(struct sheet s, const uint16_t d[], const uint8_t parent[],
     for (uint32_t v = 0; v < s.k; v++) {
         int64_t own = sum[v] - 2 * across[v];
         if (own != 0) {
-            return 14;
+            place->sum = own;
+            return refuse(14, place, "edge", v);
         }
         sum[parent[v]] += own;
     }
     return 0;
 }
 
-/* 1 to 13, then the equations. */
-static uint32_t verdict(const uint8_t *bytes, size_t length,
-                        uint32_t (*equations)(struct sheet, const uint16_t[], const uint8_t[], const int64_t[])) {
+typedef uint32_t equations_of(struct sheet, const uint16_t[], const uint8_t[], const int64_t[], struct place *);
+
+/* 1 to 13 and 16, then the equations. */
+static uint32_t verdict(const uint8_t *bytes, size_t length, equations_of *equations, struct place *place) {
     struct sheet s;
     uint16_t d[MAX_N * MAX_N];
     uint8_t parent[MAX_V];
     int64_t n[MAX_V];
-    uint32_t number = read_form(bytes, length, &s);
+    uint32_t number = read_form(3, bytes, length, &s, place);
     if (number == 0) {
-        number = read_held(&s, d, parent, n);
+        number = read_front(&s, d, parent, place);
     }
-    return number != 0 ? number : equations(s, d, parent, n);
+    if (number == 0) {
+        number = read_lengths(&s, n, place);
+    }
+    return number != 0 ? number : equations(s, d, parent, n, place);
 }
 
 uint32_t plain_triple(const uint8_t *bytes, size_t length) {
-    return verdict(bytes, length, triple);
+    struct place place = {0};
+    return verdict(bytes, length, triple, &place);
 }
 
 uint32_t plain_pass(const uint8_t *bytes, size_t length) {
-    return verdict(bytes, length, pass);
+    struct place place = {0};
+    return verdict(bytes, length, pass, &place);
+}
+
+static uint32_t write_line(uint32_t number, const struct place *place, char line[PLAIN_LINE]) {
+    line[0] = 0;
+    if (number == 14) {
+        snprintf(line, PLAIN_LINE, "refused 14 edge %zu %" PRId64 "\n", place->at, place->sum);
+    } else if (number != 0 && place->word != NULL) {
+        snprintf(line, PLAIN_LINE, "refused %u %s %zu\n", (unsigned)number, place->word, place->at);
+    } else if (number != 0) {
+        snprintf(line, PLAIN_LINE, "refused %u\n", (unsigned)number);
+    }
+    return number;
+}
+
+uint32_t plain_triple_line(const uint8_t *bytes, size_t length, char line[PLAIN_LINE]) {
+    struct place place = {0};
+    uint32_t number = verdict(bytes, length, triple, &place);
+    return write_line(number, &place, line);
+}
+
+uint32_t plain_pass_line(const uint8_t *bytes, size_t length, char line[PLAIN_LINE]) {
+    struct place place = {0};
+    uint32_t number = verdict(bytes, length, pass, &place);
+    return write_line(number, &place, line);
+}
+
+uint32_t plain_unfitted_line(const uint8_t *bytes, size_t length, char line[PLAIN_LINE]) {
+    struct sheet s = {0};
+    struct place place = {0};
+    uint16_t d[MAX_N * MAX_N];
+    uint8_t parent[MAX_V];
+    uint32_t number = read_form(2, bytes, length, &s, &place);
+    if (number == 0) {
+        number = read_front(&s, d, parent, &place);
+    }
+    for (uint32_t w = s.n; number == 0 && w < s.v; w++) {
+        uint32_t degree = w + 1 < s.v;
+        for (uint32_t v = 0; v + 1 < s.v; v++) {
+            degree += parent[v] == w;
+        }
+        if (degree != 3) {
+            number = refuse(25, &place, "vertex", w);
+        }
+    }
+    return write_line(number, &place, line);
 }

@@ -26,38 +26,55 @@ def parts(cluster, i, j):
     return (i in cluster) != (j in cluster)
 
 
-def matrix_number(n, distances):
+# ---- answers: nothing where a test passes, otherwise the number of refusal, and behind it the place in words and
+# numbers where the number has one
+PASS = ()
+
+
+def number_of(answer):
+    return answer[0] if answer else 0
+
+
+def refused_line(answer):
+    return "refused " + " ".join(str(x) for x in answer)
+
+
+def matrix_answer(n, distances):
     if len(distances) * 2 != n * (n - 1):
-        return 4
+        return (4,)
     if not 3 <= n <= 64:
-        return 6
+        return (6,)
     if any(d > 50000 for d in distances):
-        return 7
-    return 0
+        return (7,)
+    return PASS
 
 
-def tree_number(n, parents):
+def tree_answer(n, parents):
     if not 3 <= n <= 64:
-        return 6
+        return (6,)
     v = len(parents) + 1
     if not n + 1 <= v <= 2 * n - 2:
-        return 8
-    if any(p <= child or p < n or p > v - 1 for child, p in enumerate(parents)):
-        return 9
-    children = [parents.count(w) for w in range(v)]
-    if any(children[w] < (3 if w == v - 1 else 2) for w in range(n, v)):
-        return 10
-    return 0
+        return (8,)
+    for child, p in enumerate(parents):
+        if p > v - 1:
+            return 16, "vertex", child
+        if p <= child or p < n:
+            return 9, "vertex", child
+    for w in range(n, v):
+        if parents.count(w) < (3 if w == v - 1 else 2):
+            return 10, "vertex", w
+    return PASS
 
 
-def lengths_number(edges, denominator, numerators):
+def lengths_answer(edges, denominator, numerators):
     if len(numerators) != edges:
-        return 11
+        return (11,)
     if not 1 <= denominator <= 1000000:
-        return 12
-    if any(abs(x) > 100000000000 for x in numerators):
-        return 13
-    return 0
+        return (12,)
+    for v, x in enumerate(numerators):
+        if abs(x) > 100000000000:
+            return 13, "edge", v
+    return PASS
 
 
 def path(below, table, i, j):
@@ -77,10 +94,13 @@ def split_sums(n, distances, parents):
 
 
 def judge(n, distances, parents, denominator, numerators):
-    number = matrix_number(n, distances) or tree_number(n, parents) or lengths_number(len(parents), denominator, numerators)
-    if number:
-        return number
-    return 14 if any(edge_sums(n, distances, parents, denominator, numerators)) else 0
+    answer = matrix_answer(n, distances) or tree_answer(n, parents) or lengths_answer(len(parents), denominator, numerators)
+    if answer:
+        return answer
+    for v, found in enumerate(edge_sums(n, distances, parents, denominator, numerators)):
+        if found:
+            return 14, "edge", v, found
+    return PASS
 
 
 def nearest(numerator, denominator):
@@ -133,38 +153,39 @@ def sheet(n, distances, parents, denominator, numerators):
 
 
 def read_records(data, kinds):
-    """1 to 5: the number of refusal, or the bodies of the records of these kinds."""
+    """1 to 5, or the bodies of the records of these kinds. The place of 2, 3 and 4 is the record's first byte; that of
+    5 is the first byte that no record has."""
     if len(data) > MAX_SHEET:
-        return 1, None
+        return (1,), None
     at, bodies = 0, []
     for kind in kinds:
         if len(data) - at < 6:
-            return 2, None
+            return (2, "byte", at), None
         size, found = struct.unpack_from("<IH", data, at)
         if len(data) - at - 6 < size:
-            return 2, None
+            return (2, "byte", at), None
         if found != kind:
-            return 3, None
+            return (3, "byte", at), None
         body = data[at + 6:at + 6 + size]
         if size < (2, 4, 6)[kind - 1]:
-            return 4, None
+            return (4, "byte", at), None
         if kind == 1:
             n, = struct.unpack_from("<H", body)
             if size != 2 + n * (n - 1):
-                return 4, None
+                return (4, "byte", at), None
         elif kind == 2:
             _, v = struct.unpack_from("<HH", body)
             if v == 0 or size != 4 + v - 1:
-                return 4, None
+                return (4, "byte", at), None
         else:
             _, k = struct.unpack_from("<IH", body)
             if size != 6 + 8 * k:
-                return 4, None
+                return (4, "byte", at), None
         bodies.append(body)
         at += 6 + size
     if at != len(data):
-        return 5, None
-    return 0, bodies
+        return (5, "byte", at), None
+    return PASS, bodies
 
 
 def read_front(first, second):
@@ -176,54 +197,61 @@ def read_front(first, second):
 
 
 def read_sheet(data):
-    """The number of refusal, or the fields of the three records."""
-    number, bodies = read_records(data, (1, 2, 3))
-    if number:
-        return number, None
+    """A refusal, or the fields of the three records."""
+    answer, bodies = read_records(data, (1, 2, 3))
+    if answer:
+        return answer, None
     first, second, third = bodies
     denominator, k = struct.unpack_from("<IH", third)
     numerators = list(struct.unpack_from("<%dq" % k, third, 6))
-    return 0, (*read_front(first, second), denominator, numerators)
+    return PASS, (*read_front(first, second), denominator, numerators)
+
+
+def sheet_answer(data):
+    answer, fields = read_sheet(data)
+    if answer:
+        return answer
+    n, distances, tree_n, parents, denominator, numerators = fields
+    answer = matrix_answer(n, distances)
+    if answer:
+        return answer
+    if tree_n != n:
+        return (8,)
+    return judge(n, distances, parents, denominator, numerators)
 
 
 def sheet_number(data):
-    number, fields = read_sheet(data)
-    if number:
-        return number
-    n, distances, tree_n, parents, denominator, numerators = fields
-    number = matrix_number(n, distances)
-    if number:
-        return number
-    if tree_n != n:
-        return 8
-    return judge(n, distances, parents, denominator, numerators)
+    return number_of(sheet_answer(data))
 
 
 def print_of(data):
     """The lines that the report program prints."""
-    number = sheet_number(data)
-    if number:
-        return ["refused %d" % number]
+    answer = sheet_answer(data)
+    if answer:
+        return [refused_line(answer)]
     n, distances, _, parents, denominator, numerators = read_sheet(data)[1]
     return Report(n, distances, parents, denominator, numerators).lines()
 
 
 # ---- sheets without lengths
-def unresolved(n, parents):
-    """Some inner vertex is not of degree three."""
+def resolved_answer(n, parents):
+    """25 at the lowest inner vertex that is not of degree three."""
     edges = len(parents)
-    return any(parents.count(w) + (w < edges) != 3 for w in range(n, edges + 1))
+    for w in range(n, edges + 1):
+        if parents.count(w) + (w < edges) != 3:
+            return 25, "vertex", w
+    return PASS
 
 
 def resolved_print(data, solve):
     """The lines that the program for resolved trees prints; `solve` gives each edge's length as a fraction."""
-    number, bodies = read_records(data, (1, 2))
-    if number == 0:
+    answer, bodies = read_records(data, (1, 2))
+    if not answer:
         n, distances, tree_n, parents = read_front(*bodies)
-        number = (matrix_number(n, distances) or (8 if tree_n != n else 0) or tree_number(n, parents)
-                  or (25 if unresolved(n, parents) else 0))
-    if number:
-        return ["refused %d" % number]
+        answer = (matrix_answer(n, distances) or ((8,) if tree_n != n else PASS) or tree_answer(n, parents)
+                  or resolved_answer(n, parents))
+    if answer:
+        return [refused_line(answer)]
     lengths = solve(n, distances, parents)
     below = clusters(n, parents)
     rounded = [nearest(b.numerator, b.denominator) for b in lengths]

@@ -21,6 +21,11 @@ def read_back(residue):
 
 def solve(n, distances, parents):
     """The length of each edge."""
+    return solve_sums(n, parents, reading.split_sums(n, distances, parents))
+
+
+def solve_sums(n, parents, wanted):
+    """The length of each edge whose paths have these split sums."""
     below = reading.clusters(n, parents)
     edges = len(parents)
     sides = [frozenset(below[v]) for v in range(edges)]
@@ -34,7 +39,6 @@ def solve(n, distances, parents):
             neither = n - both - only_u - only_v
             row.append(both * neither + only_u * only_v)
         rows.append(row)
-    wanted = reading.split_sums(n, distances, parents)
     work = [[x % PRIME for x in row] + [w % PRIME] for row, w in zip(rows, wanted)]
     for column in range(edges):
         pivot = next(r for r in range(column, edges) if work[r][column])

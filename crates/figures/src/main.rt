@@ -1,6 +1,6 @@
 // Reads sheets from standard input, each led by its length in three bytes, little-endian, and by a byte that is
 // 0 for a sheet of three records, and any other for one without lengths. Prints one line for each: its report,
-// or the direct fit of its tree, with the line ends made spaces, or `refused` and the number.
+// or the direct fit of its tree, with the line ends made spaces, or `refused`, the number and the place.
 ghost use mathlib.Core.Path.{_≡_};
 ghost use Prim.Native.Nat.{_+_, _≤_, _<_};
 ghost use lib.ListN.{length};
@@ -42,9 +42,9 @@ fn text_of(kind: u8, sheet: &[u8], text: &mut [u8]) -> usize
     ensures { λ r. ⌜ (r ≤ length (now (text .exit))) × (length (now (text .exit)) ≡ length (now (text .entry))) ⌝ }
 {
     if kind == 0 {
-        return prints::sheet_text(sheet, text);
+        return prints::sheet_print(sheet, text);
     }
-    prints::unfitted_text(sheet, text)
+    prints::unfitted_print(sheet, text)
 }
 
 // Writes the print of a sheet out, in one line; whether it went out.

@@ -5,3 +5,4 @@ pub mod Exactly
 pub mod Demand3
 pub mod OneFit
 pub mod Steps
+pub mod Placed

@@ -6,6 +6,7 @@ use mathlib.Core.List.{List}
 use Prim.Native.Nat.{ℕ, _<_}
 use lib.IntN.{ℤ, pos, _*ℤ_}
 use lib.ListN.{length}
+use Rattle.verdict.specs.Answer.{pass}
 use Rattle.exact.specs.Sum.{pairs}
 use Rattle.exact.specs.LeastSquares.{path}
 use Rattle.exact.proofs.Sum.{pairs-sums}
@@ -17,7 +18,7 @@ use Rattle.trees.specs.Allowed.{Allowed}
 use Rattle.trees.proofs.Kernel.{no-kernel}
 use Rattle.exact.specs.Table.{entryOf}
 use Rattle.fit.specs.Quantities.{partsOf}
-use Rattle.fit.specs.Tests.{judgeNumber}
+use Rattle.fit.specs.Tests.{judgeTests}
 use Rattle.fit.specs.Stands.{Stands, OneFit}
 use Rattle.fit.proofs.Exactly.{→stands}
 
@@ -33,10 +34,10 @@ module _ (N : ℕ) (ds ps : List ℕ) (D : ℕ) (ns : List ℤ) where
   }
 
   -- for every input that `judge` accepts
-  pub accepted-one : judgeNumber N ds ps D ns ≡ 0 → OneFit N ds ps D ns
+  pub accepted-one : judgeTests N ds ps D ns ≡ pass → OneFit N ds ps D ns
   accepted-one e = one-fit (→stands N ds ps D ns e)
 
   -- two that it accepts
-  pub accepted-agree : judgeNumber N ds ps D ns ≡ 0 → (D′ : ℕ) (ns′ : List ℤ) → judgeNumber N ds ps D′ ns′ ≡ 0
+  pub accepted-agree : judgeTests N ds ps D ns ≡ pass → (D′ : ℕ) (ns′ : List ℤ) → judgeTests N ds ps D′ ns′ ≡ pass
       → (v : ℕ) → v < length ps → pos D′ *ℤ entryOf ns v ≡ pos D *ℤ entryOf ns′ v
   accepted-agree e D′ ns′ e′ = accepted-one e .agree D′ ns′ (→stands N ds ps D′ ns′ e′)

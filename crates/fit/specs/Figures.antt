@@ -6,13 +6,14 @@ use lib.Dec.{eqb}
 use lib.IntN.{ℤ, pos, negsuc, _+ℤ_, _-ℤ_, _*ℤ_}
 use lib.ListN.{length}
 use lib.Signed.{leZ}
+use Rattle.verdict.specs.Answer.{number}
 use Rattle.exact.specs.LeastSquares.{sumX}
 use Rattle.exact.specs.Nearest.{nearest}
 use Rattle.exact.specs.Sum.{pairs}
 use Rattle.exact.specs.Table.{table, entryOf}
 use Rattle.matrix.specs.Place.{distance}
 use Rattle.fit.specs.Quantities.{partsOf, fOf, rOf, hOf, roundedOf, pathOf, remainderOf, splitSum}
-use Rattle.fit.specs.Tests.{judgeNumber}
+use Rattle.fit.specs.Tests.{judgeTests}
 
 -- a proposal, and what the bench expects of it; of a refused one only the number
 pub record Figure : Type 0 where
@@ -44,7 +45,7 @@ sameList (x ∷ xs) (y ∷ ys) = same x y && sameList xs ys
 -- the definitions give the number, and of what is accepted the values
 abbrev pub holds : Figure → Bool
 holds g =
-    eqb (judgeNumber (g .strains) (g .distances) (g .parents) (g .denominator) (g .numerators)) (g .number)
+    eqb (number (judgeTests (g .strains) (g .distances) (g .parents) (g .denominator) (g .numerators))) (g .number)
     && cond (eqb (g .number) 0) (sameList (valuesOf g) (g .values)) true
 
 abbrev pub allHold : List Figure → Bool

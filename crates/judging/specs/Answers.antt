@@ -3,13 +3,13 @@ use mathlib.Core.Path.{_≡_}
 use mathlib.Core.List.{List}
 use Prim.Native.Nat.{ℕ}
 use lib.IntN.{ℤ}
-use Rattle.verdict.specs.Number.{numberOf}
+use Rattle.verdict.specs.Answer.{answerOf}
 use Rattle.verdict.specs.declared.Verdict.{Verdict}
 use Rattle.verdict.specs.declared.Verdict.the-variants.{Accepted}
 use Rattle.fit.specs.Stands.{Stands}
-use Rattle.fit.specs.Tests.{judgeNumber}
+use Rattle.fit.specs.Tests.{judgeTests}
 
 pub record JudgeAnswer (N : ℕ) (ds ps : List ℕ) (D : ℕ) (ns : List ℤ) (r : Verdict) : Type 0 where
-  pub number : numberOf r ≡ judgeNumber N ds ps D ns
+  pub answer : answerOf r ≡ judgeTests N ds ps D ns
   pub accepted : r ≡ Accepted → Stands N ds ps D ns
   pub stands : Stands N ds ps D ns → r ≡ Accepted

@@ -1,48 +1,50 @@
 // The verdict on proposed lengths, over lent slices: accepted exactly where counts and ranges pass, the tree is allowed
 // and for every edge the remainders over the pairs that it parts add to zero.
 use tree::Tree;
+use verdict::Place;
 use verdict::Reason;
+use verdict::Refusal;
 use verdict::Verdict;
 ghost use mathlib.Core.Path.{_≡_};
-ghost use mathlib.Core.Bool.{not};
 ghost use Prim.Native.Nat.{_≤_};
-ghost use lib.Dec.{eqb};
-ghost use lib.IntN.{natAbs};
 ghost use lib.ListN.{length};
 ghost use Rattle.exact.specs.Table.{entryOf};
-ghost use Rattle.verdict.specs.Number.{numberOf};
-ghost use Rattle.verdict.specs.Table.{some};
+ghost use Rattle.verdict.specs.Answer.{answerOf, fault, atFirst};
 ghost use Rattle.trees.specs.Limits.{maxEdges};
 ghost use Rattle.lengths.specs.Proper.{Proper};
 ghost use Rattle.fit.specs.Stands.{Posted};
-ghost use Rattle.fit.specs.Tests.{remaindersOut, proposalNumber};
+ghost use Rattle.fit.specs.Tests.{notZero, sumsTests, proposalTests};
 ghost use Rattle.judging.specs.Answers.{JudgeAnswer};
 
-// Some edge's sum is not zero.
-fn some_sum(edges: usize, sums: &[i64; Tree::MAX_EDGES]) -> bool
+// 14: the first edge whose sum is not zero, with its sum.
+fn balanced(edges: usize, sums: &[i64; Tree::MAX_EDGES]) -> Verdict
     requires { ⌜ edges ≤ maxEdges ⌝ }
-    ensures { λ r. ⌜ r ≡ some edges (λ v. not (eqb (natAbs (entryOf (now (sums .entry)) v)) 0)) ⌝ }
+    ensures { λ r. ⌜ answerOf r ≡ atFirst edges (notZero (entryOf (now (sums .entry)))) (λ v. fault 14 (Place.EdgeSum v (entryOf (now (sums .entry)) v))) ⌝ }
 {
     let mut v = 0;
     while v < edges {
-        if sums[v] != 0 {
-            return true;
+        let sum = sums[v];
+        if sum != 0 {
+            return Verdict::Refused(Refusal {
+                reason: Reason::Remainders,
+                place: Place::EdgeSum(v, sum),
+            });
         }
         v += 1;
     }
-    false
+    Verdict::Accepted
 }
 
 // 14: for some edge the remainders over the pairs that it parts do not add to zero.
-fn unbalanced(n: usize, distances: &[u16], parents: &[u8], d: u32, numerators: &[i64]) -> bool
+fn check_sums(n: usize, distances: &[u16], parents: &[u8], d: u32, numerators: &[i64]) -> Verdict
     requires { ⌜ Posted n (now distances) (now parents) ⌝ }
     requires { ⌜ Proper (length (now parents)) d (now numerators) ⌝ }
-    ensures { λ r. ⌜ r ≡ remaindersOut n (now (distances .entry)) (now (parents .entry)) d (now (numerators .entry)) ⌝ }
+    ensures { λ r. ⌜ answerOf r ≡ sumsTests n (now (distances .entry)) (now (parents .entry)) d (now (numerators .entry)) ⌝ }
 {
     let edges = parents.len();
     let masks = clusters::clusters(n, parents);
     let sums = edge_sums::edge_sums(n, edges, d, distances, parents, &masks, numerators);
-    some_sum(edges, &sums)
+    balanced(edges, &sums)
 }
 
 // What lengths are asked beside a matrix and a tree that pass: 11 to 14, the first that applies.
@@ -54,16 +56,13 @@ pub fn judge_proposal(
     numerators: &[i64],
 ) -> Verdict
     requires { ⌜ Posted n (now distances) (now parents) ⌝ }
-    ensures { λ r. ⌜ numberOf r ≡ proposalNumber n (now (distances .entry)) (now (parents .entry)) d (now (numerators .entry)) ⌝ }
+    ensures { λ r. ⌜ answerOf r ≡ proposalTests n (now (distances .entry)) (now (parents .entry)) d (now (numerators .entry)) ⌝ }
 {
     let of_lengths = lengths::check_lengths(parents.len(), d, numerators);
     if let Verdict::Refused(reason) = of_lengths {
         return Verdict::Refused(reason);
     }
-    if unbalanced(n as usize, distances, parents, d, numerators) {
-        return Verdict::Refused(Reason::Remainders);
-    }
-    Verdict::Accepted
+    check_sums(n as usize, distances, parents, d, numerators)
 }
 
 // The verdict: 4, 6 to 14, the first that applies.

@@ -2,14 +2,13 @@
 use mathlib.Core.Path.{_≡_, sym, _∙_, ap, ap₂}
 use mathlib.Core.List.{List}
 use Prim.Native.Nat.{ℕ}
-use native.Mathlib.Decide.{ℕ-discrete}
 use lib.IntN.{ℤ}
 use Rattle.exact.proofs.Decide.{by-cases}
 use Rattle.verdict.specs.declared.Verdict.{Verdict}
-use Rattle.verdict.proofs.Answers.{same-answer}
+use Rattle.verdict.proofs.Answers.{passes, same-answer}
 use Rattle.lengths.specs.declared.Lengths.{Lengths}
 use Rattle.lengths.specs.declared.Proposed.{Proposed}
-use Rattle.lengths.specs.Tests.{lengthsNumber}
+use Rattle.lengths.specs.Tests.{lengthsTests}
 use Rattle.lengths.specs.Kept.{Kept, Blank, LengthsAnswer}
 
 -- equal parts, equal wholes
@@ -27,8 +26,8 @@ same-proposed r s e f = ap₂ (λ (v : Verdict) (l : Lengths). whole v l) e f
     whole v l = record { verdict = v; lengths = l }
 
 pub one-lengths : (edges D : ℕ) (ns : List ℤ) (r s : Proposed) → LengthsAnswer edges D ns r → LengthsAnswer edges D ns s → r ≡ s
-one-lengths edges D ns r s p q = same-proposed r s (same-answer (r .verdict) (s .verdict) (p .number ∙ sym (q .number)))
-    (by-cases (ℕ-discrete (lengthsNumber edges D ns) 0) (λ z. kept (p .kept z) (q .kept z)) (λ z. blank (p .blank z) (q .blank z)))
+one-lengths edges D ns r s p q = same-proposed r s (same-answer (r .verdict) (s .verdict) (p .answer ∙ sym (q .answer)))
+    (by-cases (passes (lengthsTests edges D ns)) (λ z. kept (p .kept z) (q .kept z)) (λ z. blank (p .blank z) (q .blank z)))
   where
     kept : Kept D ns (r .lengths) → Kept D ns (s .lengths) → r .lengths ≡ s .lengths
     kept a b = same-lengths (r .lengths) (s .lengths) (a .denominator ∙ sym (b .denominator)) (a .edges ∙ sym (b .edges)) (a .numerators ∙ sym (b .numerators))

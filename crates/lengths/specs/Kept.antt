@@ -5,11 +5,11 @@ use Prim.Native.Nat.{ℕ}
 use lib.IntN.{ℤ, pos}
 use lib.ListN.{length, getD}
 use Rattle.exact.specs.Table.{table}
-use Rattle.verdict.specs.Number.{numberOf}
+use Rattle.verdict.specs.Answer.{pass, answerOf}
 use Rattle.lengths.specs.declared.Lengths.{Lengths}
 use Rattle.lengths.specs.declared.Proposed.{Proposed}
 use Rattle.trees.specs.Limits.{maxEdges}
-use Rattle.lengths.specs.Tests.{lengthsNumber}
+use Rattle.lengths.specs.Tests.{lengthsTests}
 
 -- lengths that passed: the numerators, followed by zeros
 pub record Kept (D : ℕ) (ns : List ℤ) (l : Lengths) : Type 0 where
@@ -25,6 +25,6 @@ pub record Blank (l : Lengths) : Type 0 where
 
 -- the whole answer
 pub record LengthsAnswer (edges D : ℕ) (ns : List ℤ) (r : Proposed) : Type 0 where
-  pub number : numberOf (r .verdict) ≡ lengthsNumber edges D ns
-  pub kept : lengthsNumber edges D ns ≡ 0 → Kept D ns (r .lengths)
-  pub blank : (lengthsNumber edges D ns ≡ 0 → ⊥) → Blank (r .lengths)
+  pub answer : answerOf (r .verdict) ≡ lengthsTests edges D ns
+  pub kept : lengthsTests edges D ns ≡ pass → Kept D ns (r .lengths)
+  pub blank : (lengthsTests edges D ns ≡ pass → ⊥) → Blank (r .lengths)

@@ -6,8 +6,8 @@ use Prim.Native.Nat.{ℕ}
 use lib.Dec.{eqb, ltb}
 use lib.IntN.{ℤ, pos, natAbs}
 use lib.ListN.{length, getD}
-use Rattle.verdict.specs.Number.{test, _orElse_}
-use Rattle.verdict.specs.Table.{some}
+use Rattle.verdict.specs.Answer.{Answer, fault, test, atFirst, _orElse_}
+use Rattle.verdict.specs.declared.Place.the-variants.{Edge}
 use Rattle.trees.specs.Limits.{maxEdges}
 use Rattle.lengths.specs.Limits.{maxDenominator, maxNumerator}
 
@@ -20,9 +20,12 @@ abbrev pub denominatorOut : ℕ → Bool
 denominatorOut D = ltb D 1 || ltb maxDenominator D
 
 -- 13: a numerator beyond its range
-abbrev pub numeratorOut : List ℤ → Bool
-numeratorOut ns = some (length ns) (λ v. ltb maxNumerator (natAbs (getD ns v (pos 0))))
+abbrev pub numeratorOut : List ℤ → ℕ → Bool
+numeratorOut ns v = ltb maxNumerator (natAbs (getD ns v (pos 0)))
 
--- the number that a proposal gets
-abbrev pub lengthsNumber : ℕ → ℕ → List ℤ → ℕ
-lengthsNumber edges D ns = test 11 (edgesOut edges ns) orElse test 12 (denominatorOut D) orElse test 13 (numeratorOut ns)
+-- the answer that a proposal gets
+abbrev pub lengthsTests : ℕ → ℕ → List ℤ → Answer
+lengthsTests edges D ns =
+    test 11 (edgesOut edges ns)
+    orElse test 12 (denominatorOut D)
+    orElse atFirst (length ns) (numeratorOut ns) (λ v. fault 13 (Edge v))

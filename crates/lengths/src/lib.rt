@@ -1,16 +1,19 @@
 // Proposed lengths: a denominator and a numerator for each edge, their limits and their tests.
 use tree::Tree;
+use verdict::Place;
 use verdict::Reason;
+use verdict::Refusal;
 use verdict::Verdict;
 ghost use mathlib.Core.Path.{_≡_};
 ghost use Prim.Native.Nat.{_≤_};
 ghost use lib.IntN.{pos};
 ghost use lib.ListN.{length, getD};
 ghost use Rattle.exact.specs.Table.{table};
-ghost use Rattle.verdict.specs.Number.{numberOf};
+ghost use Rattle.verdict.specs.Answer.{answerOf};
+ghost use Rattle.verdict.specs.Table.{first};
 ghost use Rattle.trees.specs.Limits.{maxEdges};
 ghost use Rattle.lengths.specs.Limits.{maxDenominator, maxNumerator};
-ghost use Rattle.lengths.specs.Tests.{numeratorOut, lengthsNumber};
+ghost use Rattle.lengths.specs.Tests.{numeratorOut, lengthsTests};
 ghost use Rattle.lengths.specs.Kept.{LengthsAnswer};
 
 // The length of edge v is numerators[v] / denominator; behind the edges stand zeros.
@@ -71,38 +74,54 @@ pub fn stated_limits() -> Limits
     }
 }
 
-// Some numerator is beyond its range.
-fn some_numerator_out(numerators: &[i64]) -> bool
-    ensures { λ r. ⌜ r ≡ numeratorOut (now (numerators .entry)) ⌝ }
+// The first edge whose numerator is beyond its range; the count of numerators where none is.
+fn first_numerator_out(numerators: &[i64]) -> usize
+    ensures { λ r. ⌜ r ≡ first (length (now (numerators .entry))) (numeratorOut (now (numerators .entry))) ⌝ }
 {
     let mut v = 0;
     while v < numerators.len() {
         if arithmetic::magnitude(numerators[v]) > Lengths::MAX_NUMERATOR {
-            return true;
+            return v;
         }
         v += 1;
     }
-    false
+    v
 }
 
 // 11, 12, 13, the first that applies, for any count of edges, any d and any slice.
 pub fn check_lengths(edges: usize, d: u32, numerators: &[i64]) -> Verdict
-    ensures { λ r. ⌜ numberOf r ≡ lengthsNumber edges d (now (numerators .entry)) ⌝ }
+    ensures { λ r. ⌜ answerOf r ≡ lengthsTests edges d (now (numerators .entry)) ⌝ }
 {
     if numerators.len() != edges {
-        return Verdict::Refused(Reason::Edges);
+        return Verdict::Refused(Refusal {
+            reason: Reason::Edges,
+            place: Place::Nowhere,
+        });
     }
     if edges > Tree::MAX_EDGES {
-        return Verdict::Refused(Reason::Edges);
+        return Verdict::Refused(Refusal {
+            reason: Reason::Edges,
+            place: Place::Nowhere,
+        });
     }
     if d < 1 {
-        return Verdict::Refused(Reason::Denominator);
+        return Verdict::Refused(Refusal {
+            reason: Reason::Denominator,
+            place: Place::Nowhere,
+        });
     }
     if d > Lengths::MAX_DENOMINATOR {
-        return Verdict::Refused(Reason::Denominator);
+        return Verdict::Refused(Refusal {
+            reason: Reason::Denominator,
+            place: Place::Nowhere,
+        });
     }
-    if some_numerator_out(numerators) {
-        return Verdict::Refused(Reason::Numerator);
+    let v = first_numerator_out(numerators);
+    if v < numerators.len() {
+        return Verdict::Refused(Refusal {
+            reason: Reason::Numerator,
+            place: Place::Edge(v),
+        });
     }
     Verdict::Accepted
 }

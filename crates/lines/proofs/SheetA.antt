@@ -1,11 +1,12 @@
--- The checker computes the print of sheet A from the definitions: nine lines, seven of its resolved tree, and one for a refusal.
+-- The checker computes the print of sheet A from the definitions: nine lines, seven of its resolved tree, and refusals with their places.
 use mathlib.Core.Path.{_≡_, refl}
 use mathlib.Core.List.{List, [], _∷_, _++_}
 use Prim.Native.Nat.{ℕ}
-use lib.IntN.{pos}
+use lib.IntN.{pos, negsuc}
 use lib.ListN.{getD}
+use Rattle.verdict.specs.declared.Place.the-variants.{Nowhere, Byte, Vertex, Edge, EdgeSum}
 use Rattle.text.specs.Text.{digits}
-use Rattle.lines.specs.Lines.{fields, refusedLine, edgeLines, fitText, resolvedText}
+use Rattle.lines.specs.Lines.{fields, line, refusedWord, refusedLine, edgeLines, fitText, resolvedText}
 
 -- "fit 4 5 2", five edges, "length 23", "square 2 1000000 44", "mean 2 12", each with its LF, as bytes
 abbrev pub sheet-a : List ℕ
@@ -26,9 +27,19 @@ pub print-of-a :
 unfolding digits fields edgeLines fitText
 print-of-a = refl
 
-pub print-of-refusal : refusedLine 14 ≡ 114 ∷ 101 ∷ 102 ∷ 117 ∷ 115 ∷ 101 ∷ 100 ∷ 32 ∷ 49 ∷ 52 ∷ 10 ∷ []
+-- "refused 14 edge 0 -2", "refused 9 vertex 4", "refused 13 edge 7", "refused 2 byte 0", "refused 6", each with its LF
+pub prints-of-refusals :
+    (refusedLine 14 (EdgeSum 0 (negsuc 1)) ≡ 114 ∷ 101 ∷ 102 ∷ 117 ∷ 115 ∷ 101 ∷ 100 ∷ 32 ∷ 49 ∷ 52 ∷ 32 ∷ 101 ∷ 100 ∷ 103 ∷ 101 ∷ 32 ∷ 48 ∷ 32 ∷ 45 ∷ 50 ∷ 10 ∷ [])
+    × (refusedLine 9 (Vertex 4) ≡ 114 ∷ 101 ∷ 102 ∷ 117 ∷ 115 ∷ 101 ∷ 100 ∷ 32 ∷ 57 ∷ 32 ∷ 118 ∷ 101 ∷ 114 ∷ 116 ∷ 101 ∷ 120 ∷ 32 ∷ 52 ∷ 10 ∷ [])
+    × (refusedLine 13 (Edge 7) ≡ 114 ∷ 101 ∷ 102 ∷ 117 ∷ 115 ∷ 101 ∷ 100 ∷ 32 ∷ 49 ∷ 51 ∷ 32 ∷ 101 ∷ 100 ∷ 103 ∷ 101 ∷ 32 ∷ 55 ∷ 10 ∷ [])
+    × (refusedLine 2 (Byte 0) ≡ 114 ∷ 101 ∷ 102 ∷ 117 ∷ 115 ∷ 101 ∷ 100 ∷ 32 ∷ 50 ∷ 32 ∷ 98 ∷ 121 ∷ 116 ∷ 101 ∷ 32 ∷ 48 ∷ 10 ∷ [])
+    × (refusedLine 6 Nowhere ≡ 114 ∷ 101 ∷ 102 ∷ 117 ∷ 115 ∷ 101 ∷ 100 ∷ 32 ∷ 54 ∷ 10 ∷ [])
 unfolding digits fields
-print-of-refusal = refl
+prints-of-refusals = (refl, refl, refl, refl, refl)
+
+-- where there is no place the line is a word and a number
+pub print-without-place : (k : ℕ) → refusedLine k Nowhere ≡ line refusedWord (pos k ∷ [])
+print-without-place k = refl
 
 -- "resolved 4 5", five edges, "square 1000000 44"
 abbrev pub tree-a : List ℕ

@@ -5,11 +5,13 @@ use native.Mathlib.Numerals.{add-one}
 use native.Mathlib.Omega.{arith}
 use lib.IntN.{ℤ, pos}
 use lib.ListN.{length, length-append}
+use Rattle.verdict.specs.declared.Place.{Place}
+use Rattle.verdict.specs.declared.Place.the-variants.{Nowhere, Byte, Vertex, Edge, EdgeSum}
 use Rattle.trees.specs.Limits.{maxEdges}
 use Rattle.text.specs.Text.{signed, Wrote}
 use Rattle.text.proofs.Writing.{wrote-then}
 use Rattle.text.proofs.Decimals.{signed-length}
-use Rattle.lines.specs.Lines.{end, fields, line, edgeWord, edgeLines, refusedLine, refusedWord, fitWord, lengthWord, squareWord, meanWord, resolvedWord, fitText, resolvedText}
+use Rattle.lines.specs.Lines.{end, fields, line, edgeWord, edgeLines, placeFields, refusedLine, fitWord, lengthWord, squareWord, meanWord, resolvedWord, fitText, resolvedText}
 use Rattle.lines.specs.Page.{pageSize, widest}
 
 pub fields-length : (zs : List ℤ) → length (fields zs) ≤ 22 * length zs
@@ -35,8 +37,19 @@ pub edges-more : (b : List ℕ) (at : ℕ) (row : ℕ → List ℤ) → ((u : �
 unfolding edgeLines
 edges-more b at row h k v l room p q = rw (add-one v) (wrote-then (omega (arith, edges-length v row h)) p q)
 
-pub refused-length : (k : ℕ) → length (refusedLine k) ≤ pageSize
-refused-length k = omega (arith, line-length refusedWord (pos k ∷ []))
+pub place-length : (p : Place) → length (placeFields p) ≤ 51
+place-length Nowhere = omega arith
+place-length (Byte b) = omega (arith, fields-length (pos b ∷ []))
+place-length (Vertex v) = omega (arith, fields-length (pos v ∷ []))
+place-length (Edge e) = omega (arith, fields-length (pos e ∷ []))
+place-length (EdgeSum e z) = omega (arith, fields-length (pos e ∷ z ∷ []))
+
+-- the line of a refusal is below the widest
+pub refused-widest : (k : ℕ) (p : Place) → length (refusedLine k p) ≤ widest
+refused-widest k p = simp length-append (omega (arith, fields-length (pos k ∷ []), place-length p))
+
+pub refused-length : (k : ℕ) (p : Place) → length (refusedLine k p) ≤ pageSize
+refused-length k p = omega (arith, refused-widest k p)
 
 pub text-length : (N K D : ℕ) (n m : ℕ → ℤ) (t F R H over : ℤ) → K ≤ maxEdges → length (fitText N K D n m t F R H over) ≤ pageSize
 unfolding fitText

@@ -3,6 +3,8 @@
 use mathlib.Core.List.{List, [], _∷_, _++_}
 use Prim.Native.Nat.{ℕ, zero, suc}
 use lib.IntN.{ℤ, pos}
+use Rattle.verdict.specs.declared.Place.{Place}
+use Rattle.verdict.specs.declared.Place.the-variants.{Nowhere, Byte, Vertex, Edge, EdgeSum}
 use Rattle.text.specs.Text.{signed}
 
 -- the end of a line
@@ -18,12 +20,18 @@ fields (z ∷ zs) = 32 ∷ (signed z ++ fields zs)
 abbrev pub line : List ℕ → List ℤ → List ℕ
 line word zs = word ++ (fields zs ++ end)
 
--- "refused", "fit", "edge", "length", "square", "mean", "resolved"
+-- "refused", "fit", "byte", "vertex", "edge", "length", "square", "mean", "resolved"
 abbrev pub refusedWord : List ℕ
 refusedWord = 114 ∷ 101 ∷ 102 ∷ 117 ∷ 115 ∷ 101 ∷ 100 ∷ []
 
 abbrev pub fitWord : List ℕ
 fitWord = 102 ∷ 105 ∷ 116 ∷ []
+
+abbrev pub byteWord : List ℕ
+byteWord = 98 ∷ 121 ∷ 116 ∷ 101 ∷ []
+
+abbrev pub vertexWord : List ℕ
+vertexWord = 118 ∷ 101 ∷ 114 ∷ 116 ∷ 101 ∷ 120 ∷ []
 
 abbrev pub edgeWord : List ℕ
 edgeWord = 101 ∷ 100 ∷ 103 ∷ 101 ∷ []
@@ -40,9 +48,17 @@ meanWord = 109 ∷ 101 ∷ 97 ∷ 110 ∷ []
 abbrev pub resolvedWord : List ℕ
 resolvedWord = 114 ∷ 101 ∷ 115 ∷ 111 ∷ 108 ∷ 118 ∷ 101 ∷ 100 ∷ []
 
--- refused, the number
-abbrev pub refusedLine : ℕ → List ℕ
-refusedLine k = line refusedWord (pos k ∷ [])
+-- the place of a refusal: a space, what it is, and its number; an edge's sum behind the edge; nothing where there is no place
+abbrev pub placeFields : Place → List ℕ
+placeFields Nowhere = []
+placeFields (Byte b) = 32 ∷ (byteWord ++ fields (pos b ∷ []))
+placeFields (Vertex v) = 32 ∷ (vertexWord ++ fields (pos v ∷ []))
+placeFields (Edge e) = 32 ∷ (edgeWord ++ fields (pos e ∷ []))
+placeFields (EdgeSum e z) = 32 ∷ (edgeWord ++ fields (pos e ∷ z ∷ []))
+
+-- refused, the number, and the place
+abbrev pub refusedLine : ℕ → Place → List ℕ
+refusedLine k p = refusedWord ++ (fields (pos k ∷ []) ++ (placeFields p ++ end))
 
 -- a line for each of the first K edges: edge, the edge, its row of numbers
 unfoldable pub edgeLines : ℕ → (ℕ → List ℤ) → List ℕ

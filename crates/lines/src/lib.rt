@@ -1,8 +1,11 @@
 // Lines of a word and numbers, written into a lent buffer.
+use verdict::Place;
+ghost use mathlib.Core.List.{[], _∷_, _++_};
 ghost use Prim.Native.Nat.{_+_, _*_, _≤_};
+ghost use lib.IntN.{pos};
 ghost use lib.ListN.{length};
 ghost use Rattle.text.specs.Text.{Wrote};
-ghost use Rattle.lines.specs.Lines.{fields, line, refusedLine};
+ghost use Rattle.lines.specs.Lines.{fields, line, placeFields, refusedLine};
 ghost use Rattle.lines.specs.Page.{widest};
 
 // Numbers, a space before each.
@@ -30,11 +33,41 @@ pub fn line(text: &mut [u8], at: usize, word: &[u8], values: &[i64]) -> usize
     text::put(text, end, b'\n')
 }
 
-// refused, the number.
-pub fn refused_line(text: &mut [u8], at: usize, number: u32) -> usize
-    requires room { ⌜ at + widest ≤ length (now text) ⌝ }
-    ensures { λ r. ⌜ Wrote (now (text .entry)) (now (text .exit)) at (refusedLine number) r ⌝ }
+// A word and a number, a space before it.
+fn named(text: &mut [u8], at: usize, word: &[u8], n: u64) -> usize
+    requires room { ⌜ at + length (now word) + 22 ≤ length (now text) ⌝ }
+    ensures { λ r. ⌜ Wrote (now (text .entry)) (now (text .exit)) at (now (word .entry) ++ fields (pos n ∷ [])) r ⌝ }
 {
-    let values = [number as i64];
-    line(text, at, b"refused", &values)
+    let space = text::put_word(text, at, word);
+    let number = text::put(text, space, b' ');
+    text::put_number(text, number, n)
+}
+
+// The place of a refusal: a space and byte, vertex or edge, its number, and the sum where the edge has one; nothing
+// where there is no place.
+fn place_fields(text: &mut [u8], at: usize, place: Place) -> usize
+    requires room { ⌜ at + 51 ≤ length (now text) ⌝ }
+    ensures { λ r. ⌜ Wrote (now (text .entry)) (now (text .exit)) at (placeFields place) r ⌝ }
+{
+    match place {
+        Place::Nowhere => at,
+        Place::Byte(b) => named(text, at, b" byte", b as u64),
+        Place::Vertex(v) => named(text, at, b" vertex", v as u64),
+        Place::Edge(e) => named(text, at, b" edge", e as u64),
+        Place::EdgeSum(e, z) => {
+            let edge = named(text, at, b" edge", e as u64);
+            let sum = text::put(text, edge, b' ');
+            text::put_signed(text, sum, z)
+        }
+    }
+}
+
+// refused, the number, and the place.
+pub fn refused_line(text: &mut [u8], at: usize, number: u32, place: Place) -> usize
+    requires room { ⌜ at + widest ≤ length (now text) ⌝ }
+    ensures { λ r. ⌜ Wrote (now (text .entry)) (now (text .exit)) at (refusedLine number place) r ⌝ }
+{
+    let behind = named(text, at, b"refused", number as u64);
+    let last = place_fields(text, behind, place);
+    text::put(text, last, b'\n')
 }

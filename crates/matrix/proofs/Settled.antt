@@ -2,13 +2,12 @@
 use mathlib.Core.Path.{_≡_, sym, _∙_, ap₂}
 use mathlib.Core.List.{List}
 use Prim.Native.Nat.{ℕ}
-use native.Mathlib.Decide.{ℕ-discrete}
 use Rattle.exact.proofs.Decide.{by-cases}
 use Rattle.verdict.specs.declared.Verdict.{Verdict}
-use Rattle.verdict.proofs.Answers.{same-answer}
+use Rattle.verdict.proofs.Answers.{passes, same-answer}
 use Rattle.matrix.specs.declared.Matrix.{Matrix}
 use Rattle.matrix.specs.declared.Measured.{Measured}
-use Rattle.matrix.specs.Tests.{matrixNumber}
+use Rattle.matrix.specs.Tests.{matrixTests}
 use Rattle.matrix.specs.Kept.{Kept, Blank, MatrixAnswer}
 
 -- equal parts, equal wholes
@@ -31,7 +30,7 @@ same-blank : (a b : Matrix) → Blank a → Blank b → a ≡ b
 same-blank a b p q = same-matrix a b (p .strains ∙ sym (q .strains)) (p .distances ∙ sym (q .distances))
 
 pub one-matrix : (N : ℕ) (ds : List ℕ) (r s : Measured) → MatrixAnswer N ds r → MatrixAnswer N ds s → r ≡ s
-one-matrix N ds r s p q = same-measured r s (same-answer (r .verdict) (s .verdict) (p .number ∙ sym (q .number)))
-    (by-cases (ℕ-discrete (matrixNumber N ds) 0)
+one-matrix N ds r s p q = same-measured r s (same-answer (r .verdict) (s .verdict) (p .answer ∙ sym (q .answer)))
+    (by-cases (passes (matrixTests N ds))
     (λ z. same-kept N ds (r .matrix) (s .matrix) (p .kept z) (q .kept z))
     (λ z. same-blank (r .matrix) (s .matrix) (p .blank z) (q .blank z)))

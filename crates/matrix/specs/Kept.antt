@@ -4,11 +4,11 @@ use mathlib.Core.List.{List}
 use Prim.Native.Nat.{ℕ}
 use lib.ListN.{getD}
 use Rattle.exact.specs.Table.{table}
-use Rattle.verdict.specs.Number.{numberOf}
+use Rattle.verdict.specs.Answer.{pass, answerOf}
 use Rattle.matrix.specs.declared.Matrix.{Matrix}
 use Rattle.matrix.specs.declared.Measured.{Measured}
 use Rattle.matrix.specs.Limits.{maxPairs}
-use Rattle.matrix.specs.Tests.{matrixNumber}
+use Rattle.matrix.specs.Tests.{matrixTests}
 
 -- a matrix that passed: its distances, followed by zeros
 pub record Kept (N : ℕ) (ds : List ℕ) (m : Matrix) : Type 0 where
@@ -22,6 +22,6 @@ pub record Blank (m : Matrix) : Type 0 where
 
 -- the whole answer
 pub record MatrixAnswer (N : ℕ) (ds : List ℕ) (r : Measured) : Type 0 where
-  pub number : numberOf (r .verdict) ≡ matrixNumber N ds
-  pub kept : matrixNumber N ds ≡ 0 → Kept N ds (r .matrix)
-  pub blank : (matrixNumber N ds ≡ 0 → ⊥) → Blank (r .matrix)
+  pub answer : answerOf (r .verdict) ≡ matrixTests N ds
+  pub kept : matrixTests N ds ≡ pass → Kept N ds (r .matrix)
+  pub blank : (matrixTests N ds ≡ pass → ⊥) → Blank (r .matrix)

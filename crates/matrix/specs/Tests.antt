@@ -4,7 +4,7 @@ use mathlib.Core.List.{List}
 use Prim.Native.Nat.{ℕ}
 use lib.Dec.{eqb, ltb}
 use lib.ListN.{length, getD}
-use Rattle.verdict.specs.Number.{test, _orElse_}
+use Rattle.verdict.specs.Answer.{Answer, test, _orElse_}
 use Rattle.verdict.specs.Table.{some}
 use Rattle.matrix.specs.Limits.{minStrains, maxStrains, maxDistance}
 use Rattle.matrix.specs.Place.{pairCount}
@@ -21,6 +21,6 @@ strainsOut N = ltb N minStrains || ltb maxStrains N
 abbrev pub distanceOut : List ℕ → Bool
 distanceOut ds = some (length ds) (λ k. ltb maxDistance (getD ds k 0))
 
--- the number that a matrix gets
-abbrev pub matrixNumber : ℕ → List ℕ → ℕ
-matrixNumber N ds = test 4 (countOut N ds) orElse test 6 (strainsOut N) orElse test 7 (distanceOut ds)
+-- the answer that a matrix gets
+abbrev pub matrixTests : ℕ → List ℕ → Answer
+matrixTests N ds = test 4 (countOut N ds) orElse test 6 (strainsOut N) orElse test 7 (distanceOut ds)

@@ -1,15 +1,17 @@
 // The matrix of distances: its limits, its tests, and where a pair of strains stands.
+use verdict::Place;
 use verdict::Reason;
+use verdict::Refusal;
 use verdict::Verdict;
 ghost use mathlib.Core.Path.{_≡_};
 ghost use mathlib.Core.Logic.{_≢_};
 ghost use Prim.Native.Nat.{_≤_, _<_};
 ghost use lib.ListN.{length, getD};
 ghost use Rattle.exact.specs.Table.{table};
-ghost use Rattle.verdict.specs.Number.{numberOf};
+ghost use Rattle.verdict.specs.Answer.{answerOf};
 ghost use Rattle.matrix.specs.Limits.{minStrains, maxStrains, maxDistance, maxPairs};
 ghost use Rattle.matrix.specs.Place.{pairCount, place, pairPlace};
-ghost use Rattle.matrix.specs.Tests.{distanceOut, matrixNumber};
+ghost use Rattle.matrix.specs.Tests.{distanceOut, matrixTests};
 ghost use Rattle.matrix.specs.Kept.{MatrixAnswer};
 
 // The distances between n strains, in the order 01, 02, .., 0(n-1), 12, 13, .., then zeros.
@@ -121,20 +123,32 @@ fn some_distance_out(distances: &[u16]) -> bool
 
 // 4, 6, 7, the first that applies, for any n and any slice.
 pub fn check_matrix(n: u32, distances: &[u16]) -> Verdict
-    ensures { λ r. ⌜ numberOf r ≡ matrixNumber n (now (distances .entry)) ⌝ }
+    ensures { λ r. ⌜ answerOf r ≡ matrixTests n (now (distances .entry)) ⌝ }
 {
     if distances.len() as u64 != pair_count(n) {
-        return Verdict::Refused(Reason::WrongCounts);
+        return Verdict::Refused(Refusal {
+            reason: Reason::WrongCounts,
+            place: Place::Nowhere,
+        });
     }
     let strains = n as usize;
     if strains < Matrix::MIN_STRAINS {
-        return Verdict::Refused(Reason::Strains);
+        return Verdict::Refused(Refusal {
+            reason: Reason::Strains,
+            place: Place::Nowhere,
+        });
     }
     if strains > Matrix::MAX_STRAINS {
-        return Verdict::Refused(Reason::Strains);
+        return Verdict::Refused(Refusal {
+            reason: Reason::Strains,
+            place: Place::Nowhere,
+        });
     }
     if some_distance_out(distances) {
-        return Verdict::Refused(Reason::Distance);
+        return Verdict::Refused(Refusal {
+            reason: Reason::Distance,
+            place: Place::Nowhere,
+        });
     }
     Verdict::Accepted
 }

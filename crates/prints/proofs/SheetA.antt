@@ -1,12 +1,15 @@
 -- The prints of sheet A, computed by the checker from its bytes: nine lines of the whole sheet, seven of its first two records, which
--- are a sheet without lengths.
+-- are a sheet without lengths, and two refusals with their places.
 use mathlib.Core.Path.{_≡_, refl}
+use mathlib.Core.List.{List, [], _∷_}
+use Prim.Native.Nat.{ℕ}
+use lib.ListN.{set}
 use Rattle.exact.specs.Sum.{sum, pairs, ind}
 use Rattle.exact.specs.Table.{tableFrom}
 use Rattle.exact.specs.LeastSquares.{path, hops}
 use Rattle.exact.specs.Nearest.{nearest}
 use Rattle.exact.specs.Fraction.{divisorIn}
-use Rattle.verdict.specs.Table.{some, count}
+use Rattle.verdict.specs.Table.{some, first, count}
 use Rattle.matrix.specs.Place.{rowStart, place}
 use Rattle.trees.specs.Chain.{lift, below, parts}
 use Rattle.resolution.specs.Children.{childTo}
@@ -15,14 +18,27 @@ use Rattle.text.specs.Text.{digits}
 use Rattle.lines.specs.Lines.{fields, edgeLines, fitText, resolvedText}
 use Rattle.lines.proofs.SheetA.{sheet-a, tree-a}
 use Rattle.endian.specs.Bytes.{number}
-use Rattle.records.specs.Form.{startOf, recordsNumber}
+use Rattle.records.specs.Form.{startOf, recordsTests}
 use Rattle.reading.proofs.Example.{sheetA, bareA}
 use Rattle.prints.specs.Texts.{sheetText, unfittedText}
 
 pub print-of-a : sheetText sheetA ≡ sheet-a
-unfolding sum pairs ind tableFrom path hops nearest some count rowStart place lift below parts digits fields edgeLines fitText number startOf recordsNumber
+unfolding sum pairs ind tableFrom path hops nearest some first count rowStart place lift below parts digits fields edgeLines fitText number startOf recordsTests
 print-of-a = refl
 
 pub print-of-tree-a : unfittedText bareA ≡ tree-a
-unfolding sum pairs ind tableFrom path hops nearest divisorIn some count rowStart place lift below parts childTo size between digits fields edgeLines resolvedText number startOf recordsNumber
+unfolding sum pairs ind tableFrom path hops nearest divisorIn some first count rowStart place lift below parts childTo size between digits fields edgeLines resolvedText number startOf recordsTests
 print-of-tree-a = refl
+
+-- sheet A with the numerator of its last edge 6 in place of 7: "refused 14 edge 0 2"
+abbrev pub sheetOff : List ℕ
+sheetOff = set sheetA 79 6
+
+pub print-of-off : sheetText sheetOff ≡ 114 ∷ 101 ∷ 102 ∷ 117 ∷ 115 ∷ 101 ∷ 100 ∷ 32 ∷ 49 ∷ 52 ∷ 32 ∷ 101 ∷ 100 ∷ 103 ∷ 101 ∷ 32 ∷ 48 ∷ 32 ∷ 50 ∷ 10 ∷ []
+unfolding sum pairs ind tableFrom path hops nearest some first count rowStart place lift below parts digits fields edgeLines fitText number startOf recordsTests
+print-of-off = refl
+
+-- the empty sheet: "refused 2 byte 0"
+pub print-of-none : sheetText [] ≡ 114 ∷ 101 ∷ 102 ∷ 117 ∷ 115 ∷ 101 ∷ 100 ∷ 32 ∷ 50 ∷ 32 ∷ 98 ∷ 121 ∷ 116 ∷ 101 ∷ 32 ∷ 48 ∷ 10 ∷ []
+unfolding sum pairs ind tableFrom path hops nearest some first count rowStart place lift below parts digits fields edgeLines fitText number startOf recordsTests
+print-of-none = refl

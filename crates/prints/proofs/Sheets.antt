@@ -4,10 +4,11 @@
 use mathlib.Core.Path.{_≡_, refl, sym, _∙_, ap, ap₂, subst}
 use mathlib.Core.List.{List, [], _∷_, _++_}
 use Prim.Native.Nat.{ℕ, zero, suc, _*_, _≤_, _<_}
-use native.Mathlib.Decide.{ℕ-discrete}
 use native.Mathlib.Omega.{arith}
 use lib.IntN.{ℤ, pos}
 use lib.ListN.{length}
+use Rattle.verdict.specs.Answer.{pass}
+use Rattle.verdict.proofs.Answers.{passes}
 use Rattle.exact.specs.Table.{entryOf}
 use Rattle.exact.proofs.Decide.{by-cases}
 use Rattle.matrix.specs.Place.{pairCount}
@@ -18,12 +19,12 @@ use Rattle.lines.specs.Lines.{line, edgeWord, edgeLines, fitText, fitWord, leng
 use Rattle.lines.specs.Page.{pageSize}
 use Rattle.lines.proofs.Sizes.{text-length}
 use Rattle.reading.specs.Holds.{strainsOf, distancesOf, parentsOf, denominatorOf, numeratorsOf}
-use Rattle.reading.specs.Tests.{sheetNumber}
+use Rattle.reading.specs.Tests.{sheetTests}
 use Rattle.reporting.specs.Answers.{Reported}
 use Rattle.sheet.specs.declared.SheetFit.{SheetFit}
 use Rattle.sheet.specs.Reports.{Fitted, SheetReport}
 use Rattle.prints.specs.Texts.{reportText, fitOfSheet, sheetText, Shown}
-use Rattle.prints.proofs.Texts.{text-by-number, fits-page, whole-page}
+use Rattle.prints.proofs.Texts.{text-by-answer, fits-page, whole-page}
 
 -- rows that agree at the edges have the same lines
 pub rows-cong : (K : ℕ) (row row′ : ℕ → List ℤ) → ((v : ℕ) → v < K → row v ≡ row′ v) → edgeLines K row ≡ edgeLines K row′
@@ -39,7 +40,7 @@ fit-cong N K D n n′ m m′ total F R H over f g =
     (rows-cong K (λ v. n v ∷ m v ∷ []) (λ v. n′ v ∷ m′ v ∷ []) (λ v l. ap₂ (λ (a b : ℤ). a ∷ b ∷ []) (f v l) (g v l)))
 
 module _ (s : List ℕ) (x : SheetFit) (a : SheetReport s x) where
-  module _ (z : sheetNumber s ≡ 0) where
+  module _ (z : sheetTests s ≡ pass) where
     fit : Fitted s x
     fit = a .fitted z
 
@@ -56,15 +57,15 @@ module _ (s : List ℕ) (x : SheetFit) (a : SheetReport s x) where
     edges-few = fit .reported .stands .lengths .few
 
   pub few-edges : x .report .edges ≤ maxEdges
-  few-edges = by-cases (ℕ-discrete (sheetNumber s) 0)
+  few-edges = by-cases (passes (sheetTests s))
       (λ z. omega (arith, a .fitted z .reported .edges, edges-few z))
       (λ n. omega (arith, a .unfitted n .silent .edges))
 
   pub shown-is : reportText x ≡ sheetText s
-  shown-is = text-by-number (sheetNumber s) (fitOfSheet s) (x .report .verdict) _ (a .number) text-is
+  shown-is = text-by-answer (sheetTests s) (fitOfSheet s) (x .report .verdict) _ (a .answer) text-is
 
   -- so what is written is the print of the sheet
   pub shows-sheet : (before after : List ℕ) (next : ℕ) → pageSize ≤ length before → Wrote before after 0 (reportText x) next → Shown (sheetText s) before after next
   shows-sheet before after next h w = whole-page (sheetText s) before after next
-      (fits-page (sheetNumber s) (fitOfSheet s) (λ z. text-length _ (length (parentsOf s)) _ _ _ _ _ _ _ _ (edges-few z)))
+      (fits-page (sheetTests s) (fitOfSheet s) (λ z. text-length _ (length (parentsOf s)) _ _ _ _ _ _ _ _ (edges-few z)))
       h (subst (λ (t : List ℕ). Wrote before after 0 t next) shown-is w)

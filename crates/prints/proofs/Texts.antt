@@ -1,60 +1,47 @@
--- The text of an answer, by its verdict and by its number.
--- `shows-refusal`, `shows-accepted`: what was written is the text that the verdict asks for. `text-by-number`: that text by the
--- number. `fits-page`, `whole-page`, `small-page`: it ends within a page. `one-shown`: one text and one buffer.
+-- The text of an answer.
+-- `shows-refusal`, `shows-accepted`: what was written is the text that the verdict asks for. `text-by-answer`: that text is the print
+-- of whatever gives the same answer. `fits-page`, `whole-page`, `small-page`: it ends within a page. `one-shown`: one text and one buffer.
 use mathlib.Core.Path.{_≡_, refl, sym, _∙_, ap, subst}
-use mathlib.Core.Bool.{cond}
 use mathlib.Core.List.{List}
 use Prim.Native.Nat.{ℕ, _≤_, _<_}
-use native.Mathlib.Decide.{ℕ-discrete, decLt}
+use native.Mathlib.Decide.{decLt}
 use native.Mathlib.Omega.{arith}
-use borrow.Author.Tests.{eq-eqb, ne-eqb}
 use lib.ListN.{length}
 use Rattle.exact.proofs.Decide.{by-cases}
-use Rattle.verdict.specs.Number.{numberOf, refusalOf}
-use Rattle.verdict.specs.declared.Reason.{Reason}
+use Rattle.verdict.specs.Answer.{Answer, pass, fault, answerOf, reasonNumber}
+use Rattle.verdict.specs.declared.Refusal.{Refusal}
 use Rattle.verdict.specs.declared.Verdict.{Verdict}
 use Rattle.verdict.specs.declared.Verdict.the-variants.{Accepted, Refused}
-use Rattle.verdict.proofs.Answers.{same-answer}
 use Rattle.text.specs.Text.{Wrote}
 use Rattle.text.proofs.Settled.{settled}
 use Rattle.text.proofs.Writing.{wrote-length}
 use Rattle.lines.specs.Lines.{refusedLine}
 use Rattle.lines.specs.Page.{pageSize}
 use Rattle.lines.proofs.Sizes.{refused-length}
-use Rattle.prints.specs.Texts.{byNumber, byVerdict, Shown}
+use Rattle.prints.specs.Texts.{byAnswer, Shown}
 
 -- ---- by the verdict
 module _ (v : Verdict) (fit before after : List ℕ) (next : ℕ) where
-  pub shows-refusal : (k : Reason) (number : ℕ) → v ≡ Refused k → number ≡ refusalOf k
-      → Wrote before after 0 (refusedLine number) next → Wrote before after 0 (byVerdict v fit) next
-  shows-refusal k number e f w =
-      subst (λ (t : List ℕ). Wrote before after 0 t next) (ap refusedLine f ∙ sym (ap (λ (u : Verdict). byVerdict u fit) e)) w
+  pub shows-refusal : (r : Refusal) (number : ℕ) → v ≡ Refused r → number ≡ reasonNumber (r .reason)
+      → Wrote before after 0 (refusedLine number (r .place)) next → Wrote before after 0 (byAnswer (answerOf v) fit) next
+  shows-refusal r number e f w =
+      subst (λ (t : List ℕ). Wrote before after 0 t next) (ap (λ (k : ℕ). refusedLine k (r .place)) f ∙ sym (ap (λ (u : Verdict). byAnswer (answerOf u) fit) e)) w
 
-  pub shows-accepted : v ≡ Accepted → Wrote before after 0 fit next → Wrote before after 0 (byVerdict v fit) next
-  shows-accepted e w = subst (λ (t : List ℕ). Wrote before after 0 t next) (sym (ap (λ (u : Verdict). byVerdict u fit) e)) w
+  pub shows-accepted : v ≡ Accepted → Wrote before after 0 fit next → Wrote before after 0 (byAnswer (answerOf v) fit) next
+  shows-accepted e w = subst (λ (t : List ℕ). Wrote before after 0 t next) (sym (ap (λ (u : Verdict). byAnswer (answerOf u) fit) e)) w
 
--- ---- by the number
-module _ (k : ℕ) (fit : List ℕ) where
-  at-zero : k ≡ 0 → fit ≡ byNumber k fit
-  at-zero z = sym (ap (λ b. cond b fit (refusedLine k)) (eq-eqb k 0 z))
+-- ---- by the answer
+same-fit : (a : Answer) (own fit : List ℕ) → (a ≡ pass → own ≡ fit) → byAnswer a own ≡ byAnswer a fit
+same-fit pass own fit same = same refl
+same-fit (fault k p) own fit same = refl
 
-  at-refusal : (k ≡ 0 → ⊥) → refusedLine k ≡ byNumber k fit
-  at-refusal n = sym (ap (λ b. cond b fit (refusedLine k)) (ne-eqb k 0 n))
+pub text-by-answer : (a : Answer) (fit : List ℕ) (v : Verdict) (own : List ℕ) → answerOf v ≡ a → (a ≡ pass → own ≡ fit) → byAnswer (answerOf v) own ≡ byAnswer a fit
+text-by-answer a fit v own e same = ap (λ (x : Answer). byAnswer x own) e ∙ same-fit a own fit same
 
-  pub text-by-number : (v : Verdict) (own : List ℕ) → numberOf v ≡ k → (k ≡ 0 → own ≡ fit) → byVerdict v own ≡ byNumber k fit
-  text-by-number v own e same = by-cases (ℕ-discrete k 0)
-      (λ z. ap (λ (u : Verdict). byVerdict u own) (same-answer v Accepted (e ∙ z)) ∙ same z ∙ at-zero z)
-      (λ n. refused v e n ∙ at-refusal n)
-    where
-      refused : (u : Verdict) → numberOf u ≡ k → (k ≡ 0 → ⊥) → byVerdict u own ≡ refusedLine k
-      refused Accepted f n = absurd (n (sym f))
-      refused (Refused r) f n = ap refusedLine f
-
-  -- the print fits a page
-  pub fits-page : (k ≡ 0 → length fit ≤ pageSize) → length (byNumber k fit) ≤ pageSize
-  fits-page h = by-cases (ℕ-discrete k 0)
-      (λ z. subst (λ (t : List ℕ). length t ≤ pageSize) (at-zero z) (h z))
-      (λ n. subst (λ (t : List ℕ). length t ≤ pageSize) (at-refusal n) (refused-length k))
+-- the print fits a page
+pub fits-page : (a : Answer) (fit : List ℕ) → (a ≡ pass → length fit ≤ pageSize) → length (byAnswer a fit) ≤ pageSize
+fits-page pass fit h = h refl
+fits-page (fault k p) fit h = refused-length k p
 
 -- ---- at the front of a buffer
 module _ (t before after : List ℕ) (next : ℕ) where

@@ -3,10 +3,11 @@
 use mathlib.Core.Path.{_≡_, _∙_, ap, ap₂, subst}
 use mathlib.Core.List.{List, [], _∷_, _++_}
 use Prim.Native.Nat.{ℕ, _≤_, _<_}
-use native.Mathlib.Decide.{ℕ-discrete}
 use native.Mathlib.Omega.{arith}
 use lib.IntN.{ℤ, pos}
 use lib.ListN.{length, getD}
+use Rattle.verdict.specs.Answer.{pass}
+use Rattle.verdict.proofs.Answers.{passes}
 use Rattle.exact.specs.Table.{entryOf}
 use Rattle.exact.proofs.Decide.{by-cases}
 use Rattle.trees.specs.Limits.{maxEdges}
@@ -17,9 +18,9 @@ use Rattle.lines.specs.Page.{pageSize}
 use Rattle.lines.proofs.Sizes.{resolved-text-length}
 use Rattle.reading.specs.Holds.{strainsOf, distancesOf, parentsOf}
 use Rattle.unfitted.specs.declared.UnfittedFit.{UnfittedFit}
-use Rattle.unfitted.specs.Fits.{unfittedNumber, Fitted, UnfittedAnswer}
+use Rattle.unfitted.specs.Fits.{unfittedTests, Fitted, UnfittedAnswer}
 use Rattle.prints.specs.Texts.{directText, fitOfUnfitted, unfittedText, Shown}
-use Rattle.prints.proofs.Texts.{text-by-number, fits-page, whole-page}
+use Rattle.prints.proofs.Texts.{text-by-answer, fits-page, whole-page}
 use Rattle.prints.proofs.Sheets.{rows-cong}
 
 fit-cong : (N K : ℕ) (n n′ : ℕ → ℤ) (d d′ : ℕ → ℕ) (m m′ : ℕ → ℤ) (R H : ℤ) → ((v : ℕ) → v < K → n v ≡ n′ v) → ((v : ℕ) → v < K → d v ≡ d′ v) → ((v : ℕ) → v < K → m v ≡ m′ v)
@@ -31,7 +32,7 @@ fit-cong N K n n′ d d′ m m′ R H f g h =
     (λ v l. ap₂ (λ (a : ℤ) (b : ℕ). a ∷ pos b ∷ m v ∷ []) (f v l) (g v l) ∙ ap (λ (c : ℤ). n′ v ∷ pos (d′ v) ∷ c ∷ []) (h v l)))
 
 module _ (s : List ℕ) (x : UnfittedFit) (a : UnfittedAnswer s x) where
-  module _ (z : unfittedNumber s ≡ 0) where
+  module _ (z : unfittedTests s ≡ pass) where
     fit : Fitted s x
     fit = a .fitted z
 
@@ -42,15 +43,15 @@ module _ (s : List ℕ) (x : UnfittedFit) (a : UnfittedAnswer s x) where
         ∙ ap₂ (λ (R H : ℤ). resolvedText (strainsOf s) (length (parentsOf s)) (topOf (strainsOf s) (distancesOf s) (parentsOf s)) (bottomOf (strainsOf s) (distancesOf s) (parentsOf s)) (thousandthOf (strainsOf s) (distancesOf s) (parentsOf s)) R H) (fit .resolves .r) (fit .resolves .h)
 
   pub few-edges : x .edges ≤ maxEdges
-  few-edges = by-cases (ℕ-discrete (unfittedNumber s) 0)
+  few-edges = by-cases (passes (unfittedTests s))
       (λ z. omega (arith, fit z .edges, fit z .few))
       (λ n. omega (arith, a .unfitted n .edges))
 
   pub shown-is : directText x ≡ unfittedText s
-  shown-is = text-by-number (unfittedNumber s) (fitOfUnfitted s) (x .fit .verdict) _ (a .number) text-is
+  shown-is = text-by-answer (unfittedTests s) (fitOfUnfitted s) (x .fit .verdict) _ (a .answer) text-is
 
   -- so what is written is the print of the sheet
   pub shows-unfitted : (before after : List ℕ) (next : ℕ) → pageSize ≤ length before → Wrote before after 0 (directText x) next → Shown (unfittedText s) before after next
   shows-unfitted before after next h w = whole-page (unfittedText s) before after next
-      (fits-page (unfittedNumber s) (fitOfUnfitted s) (λ z. resolved-text-length _ (length (parentsOf s)) _ _ _ _ _ (fit z .few)))
+      (fits-page (unfittedTests s) (fitOfUnfitted s) (λ z. resolved-text-length _ (length (parentsOf s)) _ _ _ _ _ (fit z .few)))
       h (subst (λ (t : List ℕ). Wrote before after 0 t next) shown-is w)

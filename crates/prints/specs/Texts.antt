@@ -1,15 +1,11 @@
 -- The prints as functions of a sheet's bytes, and what a writer of one leaves.
 use mathlib.Core.Path.{_≡_}
-use mathlib.Core.Bool.{cond}
 use mathlib.Core.List.{List}
 use Prim.Native.Nat.{ℕ, _*_, _≤_, _<_}
-use lib.Dec.{eqb}
 use lib.IntN.{pos}
 use lib.ListN.{length, getD}
 use Rattle.exact.specs.Table.{entryOf}
-use Rattle.verdict.specs.Number.{refusalOf}
-use Rattle.verdict.specs.declared.Verdict.{Verdict}
-use Rattle.verdict.specs.declared.Verdict.the-variants.{Accepted, Refused}
+use Rattle.verdict.specs.Answer.{Answer, pass, fault, answerOf}
 use Rattle.matrix.specs.Place.{pairCount}
 use Rattle.fit.specs.Quantities.{treeLength, fOf, rOf, hOf, roundedOf}
 use Rattle.resolution.specs.Lengths.{topOf, bottomOf, thousandthOf, squareOf}
@@ -17,24 +13,20 @@ use Rattle.text.specs.Text.{Wrote}
 use Rattle.lines.specs.Lines.{refusedLine, fitText, resolvedText}
 use Rattle.lines.specs.Page.{pageSize}
 use Rattle.reading.specs.Holds.{strainsOf, distancesOf, parentsOf, denominatorOf, numeratorsOf}
-use Rattle.reading.specs.Tests.{sheetNumber}
+use Rattle.reading.specs.Tests.{sheetTests}
 use Rattle.sheet.specs.declared.SheetFit.{SheetFit}
 use Rattle.unfitted.specs.declared.UnfittedFit.{UnfittedFit}
-use Rattle.unfitted.specs.Fits.{unfittedNumber}
+use Rattle.unfitted.specs.Fits.{unfittedTests}
 
--- a print by its number: the fit, or `refused` and the number
-abbrev pub byNumber : ℕ → List ℕ → List ℕ
-byNumber k fit = cond (eqb k 0) fit (refusedLine k)
-
--- a print by its verdict
-abbrev pub byVerdict : Verdict → List ℕ → List ℕ
-byVerdict Accepted fit = fit
-byVerdict (Refused r) fit = refusedLine (refusalOf r)
+-- a print by its answer: the fit, or `refused`, the number and the place
+abbrev pub byAnswer : Answer → List ℕ → List ℕ
+byAnswer pass fit = fit
+byAnswer (fault k p) fit = refusedLine k p
 
 -- of a report, with its two tables
 abbrev pub reportText : SheetFit → List ℕ
 reportText x =
-    byVerdict (x .report .verdict)
+    byAnswer (answerOf (x .report .verdict))
     (fitText (x .report .strains) (x .report .edges) (x .report .denominator) (entryOf (x .numerators)) (entryOf (x .rounded)) (x .report .length) (x .report .f) (x .report .r) (x .report .h) (x .report .mean))
 
 -- fit N K D; edge, n, m for each edge; the tree length's numerator; F, R, H; the two numbers of the mean square
@@ -48,12 +40,12 @@ fitOfSheet s =
 
 -- the print of a sheet
 abbrev pub sheetText : List ℕ → List ℕ
-sheetText s = byNumber (sheetNumber s) (fitOfSheet s)
+sheetText s = byAnswer (sheetTests s) (fitOfSheet s)
 
 -- of a direct fit, with its three tables
 abbrev pub directText : UnfittedFit → List ℕ
 directText x =
-    byVerdict (x .fit .verdict)
+    byAnswer (answerOf (x .fit .verdict))
     (resolvedText (x .strains) (x .edges) (entryOf (x .tops)) (λ v. getD (x .bottoms) v 0) (entryOf (x .rounded)) (x .fit .r) (x .fit .h))
 
 -- resolved N K; edge, the numerator and the denominator of its length, m for each edge; R, H
@@ -68,7 +60,7 @@ fitOfUnfitted s =
 
 -- the print of a sheet without lengths
 abbrev pub unfittedText : List ℕ → List ℕ
-unfittedText s = byNumber (unfittedNumber s) (fitOfUnfitted s)
+unfittedText s = byAnswer (unfittedTests s) (fitOfUnfitted s)
 
 -- a text at the front of a buffer of a page or more; one that is smaller is left as it was
 pub record Shown (text before after : List ℕ) (next : ℕ) : Type 0 where

@@ -33,11 +33,10 @@ fn report_text(fit: SheetFit, text: &mut [u8]) -> usize
     let numerators = fit.numerators;
     let rounded = fit.rounded;
     match verdict {
-        Verdict::Refused(reason) => lines::refused_line(
-            text,
-            0,
-            verdict::number(Verdict::Refused(reason)),
-        ),
+        Verdict::Refused(refusal) => {
+            let place = refusal.place;
+            lines::refused_line(text, 0, verdict::number(Verdict::Refused(refusal)), place)
+        }
         Verdict::Accepted => print::fit_text(
             text,
             report.strains,
@@ -54,8 +53,10 @@ fn report_text(fit: SheetFit, text: &mut [u8]) -> usize
     }
 }
 
-// The print of a sheet, at the front of a buffer of a page or more; a smaller one is left as it was.
-pub fn sheet_text(s: &[u8], text: &mut [u8]) -> usize
+// The print of a sheet, for a program in C too, at the front of a buffer of a page or more; a smaller one is left as it
+// was. The result is how many bytes the print has, 0 where the buffer is too small.
+#[no_mangle]
+pub extern "C" fn sheet_print(s: &[u8], text: &mut [u8]) -> usize
     ensures { λ r. ⌜ Shown (sheetText (now (s .entry))) (now (text .entry)) (now (text .exit)) r ⌝ }
 {
     if text.len() < PAGE {
@@ -76,11 +77,10 @@ fn direct_text(fit: UnfittedFit, text: &mut [u8]) -> usize
     let bottoms = fit.bottoms;
     let rounded = fit.rounded;
     match verdict {
-        Verdict::Refused(reason) => lines::refused_line(
-            text,
-            0,
-            verdict::number(Verdict::Refused(reason)),
-        ),
+        Verdict::Refused(refusal) => {
+            let place = refusal.place;
+            lines::refused_line(text, 0, verdict::number(Verdict::Refused(refusal)), place)
+        }
         Verdict::Accepted => print::resolved_text(
             text,
             fit.strains,
@@ -94,8 +94,10 @@ fn direct_text(fit: UnfittedFit, text: &mut [u8]) -> usize
     }
 }
 
-// The print of a sheet without lengths, at the front of a buffer of a page or more; a smaller one is left as it was.
-pub fn unfitted_text(s: &[u8], text: &mut [u8]) -> usize
+// The print of a sheet without lengths, for a program in C too, at the front of a buffer of a page or more; a smaller
+// one is left as it was. The result is how many bytes the print has, 0 where the buffer is too small.
+#[no_mangle]
+pub extern "C" fn unfitted_print(s: &[u8], text: &mut [u8]) -> usize
     ensures { λ r. ⌜ Shown (unfittedText (now (s .entry))) (now (text .entry)) (now (text .exit)) r ⌝ }
 {
     if text.len() < PAGE {

@@ -6,33 +6,34 @@ use native.Mathlib.Omega.{arith}
 use borrow.Author.Tests.{lt-ltb, le-ltb, eq-eqb}
 use lib.ListN.{length}
 use Rattle.exact.proofs.Fill.{length-table}
-use Rattle.verdict.specs.declared.Reason.{Reason}
 use Rattle.verdict.specs.declared.Reason.the-variants.{Strains}
+use Rattle.verdict.specs.declared.Place.the-variants.{Nowhere}
+use Rattle.verdict.specs.declared.Refusal.{Refusal}
 use Rattle.verdict.specs.declared.Verdict.{Verdict}
 use Rattle.verdict.specs.declared.Verdict.the-variants.{Accepted, Refused}
-use Rattle.verdict.specs.Number.{numberOf, refusalOf, test, _orElse_}
-use Rattle.verdict.proofs.Answers.{orElse-zero, not-zero, refused-row}
+use Rattle.verdict.specs.Answer.{Answer, pass, fault, answerOf, refusalOf, test, _orElse_}
+use Rattle.verdict.proofs.Answers.{orElse-pass, not-pass, refused-row}
 use Rattle.matrix.specs.Limits.{minStrains, maxStrains}
 use Rattle.matrix.specs.Place.{pairCount}
-use Rattle.matrix.specs.Tests.{matrixNumber}
+use Rattle.matrix.specs.Tests.{matrixTests}
 use Rattle.trees.specs.Limits.{maxEdges}
-use Rattle.fit.specs.Tests.{postedNumber}
+use Rattle.fit.specs.Tests.{postedTests}
 use Rattle.fit.specs.Stands.{Posted}
 use Rattle.fit.proofs.Exactly.{→posted}
-use Rattle.records.specs.Form.{formNumber}
+use Rattle.records.specs.Form.{formTests}
 use Rattle.reading.specs.declared.Sheet.{Sheet}
 use Rattle.reading.specs.Holds.{strainsOf, distancesOf, verticesOf, parentsOf}
-use Rattle.reading.specs.Tests.{strainsDiffer, edgesDiffer, pairNumber, readNumber}
+use Rattle.reading.specs.Tests.{strainsDiffer, edgesDiffer, pairTests, readTests}
 use Rattle.reading.specs.Reads.{Held, Blank, SheetAnswer}
 
 -- ---- matrix and tree that pass
-module _ (s : List ℕ) (z : pairNumber s ≡ 0) where
+module _ (s : List ℕ) (z : pairTests s ≡ pass) where
   pub pair-posted : Posted (strainsOf s) (distancesOf s) (parentsOf s)
   pair-posted =
       let N = strainsOf s in
       let ds = distancesOf s in
-      let (_, r) = orElse-zero (matrixNumber N ds) (test 8 (strainsDiffer s) orElse postedNumber N ds (parentsOf s)) z in
-      →posted N ds (parentsOf s) (orElse-zero (test 8 (strainsDiffer s)) (postedNumber N ds (parentsOf s)) r .1)
+      let (_, r) = orElse-pass (matrixTests N ds) (test 8 (strainsDiffer s) orElse postedTests N ds (parentsOf s)) z in
+      →posted N ds (parentsOf s) (orElse-pass (test 8 (strainsDiffer s)) (postedTests N ds (parentsOf s)) r .1)
 
   pub parents-few : verticesOf s - 1 ≤ maxEdges
   parents-few =
@@ -41,23 +42,23 @@ module _ (s : List ℕ) (z : pairNumber s ≡ 0) where
 
 -- ---- a refusal has zeros everywhere
 module _ (count : ℕ) (s : List ℕ) (x : Sheet) where
-  answer-refused : (r : Reason) → (x .verdict ≡ Refused r) × Blank x → readNumber count s ≡ refusalOf r → SheetAnswer count s x
+  answer-refused : (r : Refusal) → (x .verdict ≡ Refused r) × Blank x → readTests count s ≡ refusalOf r → SheetAnswer count s x
   answer-refused r e f = record {
-    number = ap numberOf (e .0) ∙ sym f;
-    held = λ z. absurd (not-zero r (sym f ∙ z));
+    answer = ap answerOf (e .0) ∙ sym f;
+    held = λ z. absurd (not-pass r (sym f ∙ z));
     blank = λ _. e .1;
   }
 
   -- the form's
-  pub form-refused : (v : Verdict) (r : Reason) → numberOf v ≡ formNumber count s → v ≡ Refused r → (x .verdict ≡ Refused r) × Blank x → SheetAnswer count s x
-  form-refused v r f g e = answer-refused r e (sym (refused-row r v (formNumber count s) (pairNumber s orElse test 11 (edgesDiffer count s)) g f))
+  pub form-refused : (v : Verdict) (r : Refusal) → answerOf v ≡ formTests count s → v ≡ Refused r → (x .verdict ≡ Refused r) × Blank x → SheetAnswer count s x
+  form-refused v r f g e = answer-refused r e (sym (refused-row r v (formTests count s) (pairTests s orElse test 11 (edgesDiffer count s)) g f))
 
-  module _ (z : formNumber count s ≡ 0) where
-    past-form : readNumber count s ≡ (pairNumber s orElse test 11 (edgesDiffer count s))
-    past-form = ap (λ (k : ℕ). k orElse pairNumber s orElse test 11 (edgesDiffer count s)) z
+  module _ (z : formTests count s ≡ pass) where
+    past-form : readTests count s ≡ (pairTests s orElse test 11 (edgesDiffer count s))
+    past-form = ap (λ (k : Answer). k orElse pairTests s orElse test 11 (edgesDiffer count s)) z
 
     -- more strains than a matrix may have
-    many : maxStrains < strainsOf s → matrixNumber (strainsOf s) (distancesOf s) ≡ 6
+    many : maxStrains < strainsOf s → matrixTests (strainsOf s) (distancesOf s) ≡ fault 6 Nowhere
     many h =
         simp (
           eq-eqb (length (distancesOf s)) (pairCount (strainsOf s)) (length-table (pairCount (strainsOf s)) _),
@@ -65,24 +66,24 @@ module _ (count : ℕ) (s : List ℕ) (x : Sheet) where
           lt-ltb maxStrains (strainsOf s) h,
         )
 
-    pub many-strains : (n : ℕ) → n ≡ strainsOf s → maxStrains < n → (x .verdict ≡ Refused Strains) × Blank x → SheetAnswer count s x
+    pub many-strains : (n : ℕ) → n ≡ strainsOf s → maxStrains < n → (x .verdict ≡ Refused (record { reason = Strains; place = Nowhere })) × Blank x → SheetAnswer count s x
     many-strains n e h f =
-        answer-refused Strains f
-        (past-form ∙ ap (λ (k : ℕ). (k orElse test 8 (strainsDiffer s) orElse postedNumber (strainsOf s) (distancesOf s) (parentsOf s)) orElse test 11 (edgesDiffer count s)) (many (omega arith)))
+        answer-refused (record { reason = Strains; place = Nowhere }) f
+        (past-form ∙ ap (λ (k : Answer). (k orElse test 8 (strainsDiffer s) orElse postedTests (strainsOf s) (distancesOf s) (parentsOf s)) orElse test 11 (edgesDiffer count s)) (many (omega arith)))
 
     -- the matrix's and the tree's
-    pub pair-refused : (v : Verdict) (r : Reason) → numberOf v ≡ pairNumber s → v ≡ Refused r → (x .verdict ≡ Refused r) × Blank x → SheetAnswer count s x
-    pair-refused v r f g e = answer-refused r e (past-form ∙ sym (refused-row r v (pairNumber s) (test 11 (edgesDiffer count s)) g f))
+    pub pair-refused : (v : Verdict) (r : Refusal) → answerOf v ≡ pairTests s → v ≡ Refused r → (x .verdict ≡ Refused r) × Blank x → SheetAnswer count s x
+    pair-refused v r f g e = answer-refused r e (past-form ∙ sym (refused-row r v (pairTests s) (test 11 (edgesDiffer count s)) g f))
 
-    module _ (y : pairNumber s ≡ 0) where
-      past-pair : readNumber count s ≡ test 11 (edgesDiffer count s)
-      past-pair = past-form ∙ ap (λ (k : ℕ). k orElse test 11 (edgesDiffer count s)) y
+    module _ (y : pairTests s ≡ pass) where
+      past-pair : readTests count s ≡ test 11 (edgesDiffer count s)
+      past-pair = past-form ∙ ap (λ (k : Answer). k orElse test 11 (edgesDiffer count s)) y
 
       -- the lengths'
-      pub lengths-refused : (v : Verdict) (r : Reason) → numberOf v ≡ test 11 (edgesDiffer count s) → v ≡ Refused r → (x .verdict ≡ Refused r) × Blank x → SheetAnswer count s x
-      lengths-refused v r f g e = answer-refused r e (past-pair ∙ sym f ∙ ap numberOf g)
+      pub lengths-refused : (v : Verdict) (r : Refusal) → answerOf v ≡ test 11 (edgesDiffer count s) → v ≡ Refused r → (x .verdict ≡ Refused r) × Blank x → SheetAnswer count s x
+      lengths-refused v r f g e = answer-refused r e (past-pair ∙ sym f ∙ ap answerOf g)
 
-      pub all-held : (v : Verdict) → numberOf v ≡ test 11 (edgesDiffer count s) → v ≡ Accepted → x .verdict ≡ Accepted → Held count s x → SheetAnswer count s x
+      pub all-held : (v : Verdict) → answerOf v ≡ test 11 (edgesDiffer count s) → v ≡ Accepted → x .verdict ≡ Accepted → Held count s x → SheetAnswer count s x
       all-held v f g e h =
-          let t = past-pair ∙ sym f ∙ ap numberOf g in
-          record { number = ap numberOf e ∙ sym t; held = λ _. h; blank = λ n. absurd (n t) }
+          let t = past-pair ∙ sym f ∙ ap answerOf g in
+          record { answer = ap answerOf e ∙ sym t; held = λ _. h; blank = λ n. absurd (n t) }

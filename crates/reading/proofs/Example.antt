@@ -1,19 +1,21 @@
--- Sheet A, byte by byte: its form, what its records hold, and its number, computed.
+-- Sheet A, byte by byte: its form, what its records hold, and its answer, computed.
 use mathlib.Core.Path.{_≡_, refl}
 use mathlib.Core.List.{List, [], _∷_}
 use Prim.Native.Nat.{ℕ}
 use lib.IntN.{pos, negsuc}
 use lib.ListN.{length, take}
+use Rattle.verdict.specs.declared.Place.the-variants.{Byte}
+use Rattle.verdict.specs.Answer.{pass, fault}
 use Rattle.exact.specs.Sum.{sum, pairs, ind}
 use Rattle.exact.specs.Table.{tableFrom}
 use Rattle.exact.specs.LeastSquares.{path}
-use Rattle.verdict.specs.Table.{some, count}
+use Rattle.verdict.specs.Table.{some, first, count}
 use Rattle.matrix.specs.Place.{rowStart, place}
 use Rattle.trees.specs.Chain.{lift, below, parts}
 use Rattle.endian.specs.Bytes.{number, twos}
-use Rattle.records.specs.Form.{startOf, recordsNumber, formNumber}
+use Rattle.records.specs.Form.{startOf, recordsTests, formTests}
 use Rattle.reading.specs.Holds.{strainsOf, distancesOf, treeStrainsOf, parentsOf, denominatorOf, numeratorsOf}
-use Rattle.reading.specs.Tests.{readNumber, sheetNumber}
+use Rattle.reading.specs.Tests.{readTests, sheetTests}
 
 -- three heads, each with its body
 abbrev pub sheetA : List ℕ
@@ -34,12 +36,12 @@ sheetA =
 pub all-bytes : length sheetA ≡ 87
 all-bytes = refl
 
-pub form : formNumber 3 sheetA ≡ 0
-unfolding number startOf recordsNumber
+pub form : formTests 3 sheetA ≡ pass
+unfolding number startOf recordsTests
 form = refl
 
 pub strains : (strainsOf sheetA ≡ 4) × (treeStrainsOf sheetA ≡ 4)
-unfolding number startOf recordsNumber
+unfolding number startOf recordsTests
 strains = (refl, refl)
 
 pub distances : distancesOf sheetA ≡ 3 ∷ 7 ∷ 8 ∷ 6 ∷ 9 ∷ 5 ∷ []
@@ -51,23 +53,23 @@ unfolding number startOf tableFrom
 parents = refl
 
 pub denominator : denominatorOf sheetA ≡ 2
-unfolding number startOf recordsNumber
+unfolding number startOf recordsTests
 denominator = refl
 
 pub numerators : numeratorsOf sheetA ≡ pos 3 ∷ pos 3 ∷ pos 3 ∷ pos 7 ∷ pos 7 ∷ []
 unfolding number startOf tableFrom
 numerators = refl
 
-pub accepted : sheetNumber sheetA ≡ 0
-unfolding sum pairs ind tableFrom path some count rowStart place lift below parts number startOf recordsNumber
+pub accepted : sheetTests sheetA ≡ pass
+unfolding sum pairs ind tableFrom path some first count rowStart place lift below parts number startOf recordsTests
 accepted = refl
 
 -- its first two records: a sheet without lengths. The whole sheet is none, since bytes are left.
 abbrev pub bareA : List ℕ
 bareA = take 35 sheetA
 
-pub bare-accepted : (formNumber 2 bareA ≡ 0) × (readNumber 2 bareA ≡ 0) × (formNumber 2 sheetA ≡ 5)
-unfolding tableFrom some count number startOf recordsNumber
+pub bare-accepted : (formTests 2 bareA ≡ pass) × (readTests 2 bareA ≡ pass) × (formTests 2 sheetA ≡ fault 5 (Byte 35))
+unfolding tableFrom some first count number startOf recordsTests
 bare-accepted = (refl, refl, refl)
 
 pub same-front : (distancesOf bareA ≡ distancesOf sheetA) × (parentsOf bareA ≡ parentsOf sheetA)
@@ -76,5 +78,5 @@ same-front = (refl, refl)
 
 -- eight bytes of a number below zero
 pub below-zero : twos (number 8 (253 ∷ 255 ∷ 255 ∷ 255 ∷ 255 ∷ 255 ∷ 255 ∷ 255 ∷ []) 0) ≡ negsuc 2
-unfolding number startOf recordsNumber
+unfolding number startOf recordsTests
 below-zero = refl

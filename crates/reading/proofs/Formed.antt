@@ -8,21 +8,22 @@ use borrow.Author.Tests.{eq-eqb, ne-eqb}
 use lib.Dec.{eqb}
 use lib.ListN.{length, take, drop, getD}
 use Rattle.exact.specs.Table.{table, padded}
-use Rattle.verdict.specs.Number.{test, _orElse_}
+use Rattle.verdict.specs.declared.Place.the-variants.{Nowhere}
+use Rattle.verdict.specs.Answer.{pass, fault, test, _orElse_}
 use Rattle.verdict.proofs.Answers.{orElse-again}
 use Rattle.matrix.specs.Limits.{maxStrains, maxPairs}
 use Rattle.matrix.specs.Place.{pairCount}
-use Rattle.matrix.specs.Tests.{matrixNumber}
+use Rattle.matrix.specs.Tests.{matrixTests}
 use Rattle.matrix.proofs.Places.{pairs-few}
-use Rattle.trees.specs.Tests.{treeNumber}
-use Rattle.fit.specs.Tests.{postedNumber}
+use Rattle.trees.specs.Tests.{treeTests}
+use Rattle.fit.specs.Tests.{postedTests}
 use Rattle.endian.specs.Bytes.{number}
-use Rattle.records.specs.Form.{maxSheet, startOf, formNumber}
+use Rattle.records.specs.Form.{maxSheet, startOf, formTests}
 use Rattle.records.proofs.InTurn.{first-start}
 use Rattle.records.proofs.Formed.{form-short, record-ends, record-long}
 use Rattle.records.proofs.Decoding.{front-is, part-is}
 use Rattle.reading.specs.Holds.{strainsOf, distancesOf, verticesOf, parentsOf}
-use Rattle.reading.specs.Tests.{pairNumber}
+use Rattle.reading.specs.Tests.{pairTests}
 
 -- the matrix and the tree: the tree starts at t and ends at l
 pub record Fronted (s : List ℕ) (t l : ℕ) : Type 0 where
@@ -33,7 +34,7 @@ pub record Fronted (s : List ℕ) (t l : ℕ) : Type 0 where
   pub there : l ≤ length s
   pub short : length s ≤ maxSheet
 
-module _ (count : ℕ) (s : List ℕ) (z : formNumber count s ≡ 0) where
+module _ (count : ℕ) (s : List ℕ) (z : formTests count s ≡ pass) where
   matrix-long : 1 ≤ count → startOf s 1 ≡ 8 + number 2 s 6 * (number 2 s 6 - 1)
   matrix-long h =
       record-long count s z 0 (omega arith)
@@ -81,19 +82,19 @@ module _ {s : List ℕ} {t l : ℕ} (w : Fronted s t l) where
       ∙ ap₂ (λ (k a : ℕ). table k (λ i. getD s (a + i) 0)) parents-count (ap (λ (a : ℕ). a + 6 + 4) (w .tree-at))
 
   pub pair-is : (n u : ℕ) (ds ps : List ℕ) → n ≡ number 2 s 6 → u ≡ number 2 s (t + 6) → ds ≡ distancesOf s → ps ≡ parentsOf s
-      → (matrixNumber n ds orElse test 8 (not (eqb u n)) orElse postedNumber n ds ps) ≡ pairNumber s
+      → (matrixTests n ds orElse test 8 (not (eqb u n)) orElse postedTests n ds ps) ≡ pairTests s
   pair-is n u ds ps e f g h =
-      ap₂ (λ (k : ℕ) (xs : List ℕ). matrixNumber k xs orElse test 8 (not (eqb u k)) orElse postedNumber k xs ps) e g
-      ∙ ap₂ (λ (v : ℕ) (xs : List ℕ). matrixNumber (strainsOf s) (distancesOf s) orElse test 8 (not (eqb v (strainsOf s))) orElse postedNumber (strainsOf s) (distancesOf s) xs)
+      ap₂ (λ (k : ℕ) (xs : List ℕ). matrixTests k xs orElse test 8 (not (eqb u k)) orElse postedTests k xs ps) e g
+      ∙ ap₂ (λ (v : ℕ) (xs : List ℕ). matrixTests (strainsOf s) (distancesOf s) orElse test 8 (not (eqb v (strainsOf s))) orElse postedTests (strainsOf s) (distancesOf s) xs)
       (f ∙ ap (λ (a : ℕ). number 2 s (a + 6)) (w .tree-at)) h
 
 -- ---- matrix and tree, by their two counts of strains
 module _ (n u : ℕ) (ds ps : List ℕ) where
-  pub apart : (u ≡ n → ⊥) → (matrixNumber n ds orElse 8) ≡ (matrixNumber n ds orElse test 8 (not (eqb u n)) orElse postedNumber n ds ps)
-  apart h = ap (λ (b : Bool). matrixNumber n ds orElse test 8 b orElse postedNumber n ds ps) (sym (ap not (ne-eqb u n h)))
+  pub apart : (u ≡ n → ⊥) → (matrixTests n ds orElse fault 8 Nowhere) ≡ (matrixTests n ds orElse test 8 (not (eqb u n)) orElse postedTests n ds ps)
+  apart h = ap (λ (b : Bool). matrixTests n ds orElse test 8 b orElse postedTests n ds ps) (sym (ap not (ne-eqb u n h)))
 
   -- the matrix may be asked before both together
-  pub together : u ≡ n → postedNumber n ds ps ≡ (matrixNumber n ds orElse test 8 (not (eqb u n)) orElse postedNumber n ds ps)
+  pub together : u ≡ n → postedTests n ds ps ≡ (matrixTests n ds orElse test 8 (not (eqb u n)) orElse postedTests n ds ps)
   together h =
-      sym (orElse-again (matrixNumber n ds) (treeNumber n ps))
-      ∙ ap (λ (b : Bool). matrixNumber n ds orElse test 8 b orElse postedNumber n ds ps) (sym (ap not (eq-eqb u n h)))
+      sym (orElse-again (matrixTests n ds) (treeTests n ps))
+      ∙ ap (λ (b : Bool). matrixTests n ds orElse test 8 b orElse postedTests n ds ps) (sym (ap not (eq-eqb u n h)))

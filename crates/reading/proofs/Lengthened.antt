@@ -3,13 +3,14 @@ use mathlib.Core.Path.{_≡_, refl, sym, ap, ap₂, _∙_}
 use mathlib.Core.Bool.{not}
 use mathlib.Core.List.{List}
 use Prim.Native.Nat.{ℕ, _+_, _-_, _*_}
-use native.Mathlib.Omega.{arith}
 use borrow.Author.Tests.{eq-eqb, ne-eqb}
 use lib.IntN.{ℤ, pos}
 use Rattle.exact.specs.Table.{tableFrom, table, padded}
 use Rattle.verdict.specs.declared.Reason.the-variants.{Edges}
+use Rattle.verdict.specs.declared.Place.the-variants.{Nowhere}
 use Rattle.verdict.specs.declared.Verdict.the-variants.{Accepted, Refused}
-use Rattle.verdict.specs.Number.{numberOf, test}
+use Rattle.verdict.specs.Answer.{pass, answerOf, test}
+use Rattle.verdict.proofs.Answers.{refuses}
 use Rattle.trees.specs.Limits.{maxEdges}
 use Rattle.endian.specs.Bytes.{number, twos}
 use Rattle.records.specs.Form.{startOf}
@@ -25,7 +26,7 @@ padded-none f = refl
 module _ (s : List ℕ) (x : Proposal) where
   two-records : x .verdict ≡ Accepted → x .denominator ≡ 0 → x .edges ≡ 0 → x .numerators ≡ table maxEdges (λ _. pos 0) → Proposed 2 s x
   two-records v d k n = record {
-    number = ap numberOf v;
+    answer = ap answerOf v;
     denominator = λ _. d;
     edges = λ _. k;
     numerators = λ _. n ∙ sym (padded-none (numeratorAt s));
@@ -38,11 +39,11 @@ module _ (s : List ℕ) (x : Proposal) where
     counted : k ≡ edgesOf s
     counted = f ∙ ap (λ (a : ℕ). number 2 s (a + 6 + 4)) e
 
-    other : (k ≡ edges → ⊥) → x .verdict ≡ Refused Edges → Proposed 3 s x
+    other : (k ≡ edges → ⊥) → x .verdict ≡ Refused (record { reason = Edges; place = Nowhere }) → Proposed 3 s x
     other h v =
-        let none : (numberOf (x .verdict) ≡ 0 → ⊥) = λ z. let b : _≡_ {A = ℕ} 11 0 = sym (ap numberOf v) ∙ z in omega arith in
+        let none : (answerOf (x .verdict) ≡ pass → ⊥) = λ z. refuses 11 Nowhere (sym (ap answerOf v) ∙ z) in
         record {
-          number = ap numberOf v ∙ sym (ap (λ b. test 11 (not b)) (ne-eqb (edgesOf s) (verticesOf s - 1) (λ q. h (counted ∙ q ∙ sym g))));
+          answer = ap answerOf v ∙ sym (ap (λ b. test 11 (not b)) (ne-eqb (edgesOf s) (verticesOf s - 1) (λ q. h (counted ∙ q ∙ sym g))));
           denominator = λ z. absurd (none z);
           edges = λ z. absurd (none z);
           numerators = λ z. absurd (none z);
@@ -51,14 +52,14 @@ module _ (s : List ℕ) (x : Proposal) where
     same : k ≡ edges → x .verdict ≡ Accepted → x .denominator ≡ number 4 s (at + 6) → x .edges ≡ edges
         → x .numerators ≡ padded (pos 0) maxEdges edges (λ i. twos (number 8 s (at + 6 + 6 + 8 * i))) → Proposed 3 s x
     same h v d m n = record {
-      number = ap numberOf v ∙ sym (ap (λ b. test 11 (not b)) (eq-eqb (edgesOf s) (verticesOf s - 1) (sym counted ∙ h ∙ g)));
+      answer = ap answerOf v ∙ sym (ap (λ b. test 11 (not b)) (eq-eqb (edgesOf s) (verticesOf s - 1) (sym counted ∙ h ∙ g)));
       denominator = λ _. d ∙ ap (λ (a : ℕ). number 4 s (a + 6)) e;
       edges = λ _. m ∙ sym h ∙ counted;
       numerators = λ _. n ∙ ap₂ (λ (c a : ℕ). padded (pos 0) maxEdges c (λ i. twos (number 8 s (a + 6 + 6 + 8 * i)))) (sym h ∙ counted) e;
     }
 
     module _ (count : ℕ) (three : count ≡ 3) where
-      pub other-count : (k ≡ edges → ⊥) → x .verdict ≡ Refused Edges → Proposed count s x
+      pub other-count : (k ≡ edges → ⊥) → x .verdict ≡ Refused (record { reason = Edges; place = Nowhere }) → Proposed count s x
       other-count h v = rw three (other h v)
 
       pub with-lengths : k ≡ edges → x .verdict ≡ Accepted → x .denominator ≡ number 4 s (at + 6) → x .edges ≡ edges

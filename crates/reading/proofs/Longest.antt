@@ -5,24 +5,25 @@ use mathlib.Core.List.{List}
 use Prim.Native.Nat.{ℕ, _+_, _-_, _*_, _≤_}
 use native.Mathlib.Omega.{arith}
 use lib.ListN.{length}
-use Rattle.verdict.proofs.Answers.{orElse-zero}
+use Rattle.verdict.specs.Answer.{pass}
+use Rattle.verdict.proofs.Answers.{orElse-pass}
 use Rattle.matrix.specs.Limits.{maxStrains}
 use Rattle.trees.specs.Limits.{maxVertices, maxEdges}
-use Rattle.records.specs.Form.{maxSheet, startOf, formNumber}
+use Rattle.records.specs.Form.{maxSheet, startOf, formTests}
 use Rattle.records.proofs.Formed.{form-short, form-whole, record-ends, record-long}
 use Rattle.reading.specs.Holds.{strainsOf, verticesOf, edgesOf}
-use Rattle.reading.specs.Tests.{heldNumber, sheetNumber}
+use Rattle.reading.specs.Tests.{heldTests, sheetTests}
 use Rattle.reading.proofs.Formed.{fronted}
 
-pub none-longer : (s : List ℕ) → sheetNumber s ≡ 0 → length s ≤ maxSheet
-none-longer s z = form-short 3 s (orElse-zero (formNumber 3 s) (heldNumber s) z .0)
+pub none-longer : (s : List ℕ) → sheetTests s ≡ pass → length s ≤ maxSheet
+none-longer s z = form-short 3 s (orElse-pass (formTests 3 s) (heldTests s) z .0)
 
 -- a sheet of the form ends where its counts say
-ends-at : (s : List ℕ) → formNumber 3 s ≡ 0
+ends-at : (s : List ℕ) → formTests 3 s ≡ pass
     → length s ≡ 8 + strainsOf s * (strainsOf s - 1) + (10 + (verticesOf s - 1)) + (12 + 8 * edgesOf s)
 ends-at s z =
     let w = fronted 3 s z (omega arith) (startOf s 1) (startOf s 2) refl refl in
     omega (arith, w .matrix, w .tree, form-whole 3 s z, record-ends 3 s z 2 (omega arith), record-long 3 s z 2 (omega arith))
 
-pub just-so : (s : List ℕ) → formNumber 3 s ≡ 0 → strainsOf s ≡ maxStrains → verticesOf s ≡ maxVertices → edgesOf s ≡ maxEdges → length s ≡ maxSheet
+pub just-so : (s : List ℕ) → formTests 3 s ≡ pass → strainsOf s ≡ maxStrains → verticesOf s ≡ maxVertices → edgesOf s ≡ maxEdges → length s ≡ maxSheet
 just-so s z n v k = ends-at s z ∙ rw (n, v, k)

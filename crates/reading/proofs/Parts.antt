@@ -12,18 +12,18 @@ use lib.ListN.{length, take, drop}
 use Rattle.exact.specs.Table.{table, padded}
 use Rattle.exact.proofs.Fill.{length-table}
 use Rattle.verdict.specs.declared.Verdict.the-variants.{Accepted}
-use Rattle.verdict.specs.Number.{numberOf, test, _orElse_}
-use Rattle.verdict.proofs.Answers.{orElse-zero, test-zero}
+use Rattle.verdict.specs.Answer.{pass, answerOf, test, _orElse_}
+use Rattle.verdict.proofs.Answers.{orElse-pass, test-pass}
 use Rattle.matrix.specs.Limits.{maxPairs}
 use Rattle.matrix.specs.Place.{pairCount}
 use Rattle.matrix.proofs.Places.{pairs-few}
 use Rattle.trees.specs.Limits.{maxEdges}
 use Rattle.fit.specs.Stands.{Posted}
-use Rattle.records.specs.Form.{formNumber, startOf}
+use Rattle.records.specs.Form.{formTests, startOf}
 use Rattle.records.proofs.Decoding.{front-is, front-length, front-there}
 use Rattle.reading.specs.declared.Sheet.{Sheet}
 use Rattle.reading.specs.Holds.{strainsOf, distanceAt, distancesOf, verticesOf, parentsOf, denominatorOf, edgesOf, numeratorAt, numeratorsOf}
-use Rattle.reading.specs.Tests.{edgesDiffer, pairNumber, readNumber}
+use Rattle.reading.specs.Tests.{edgesDiffer, pairTests, readTests}
 use Rattle.reading.specs.Reads.{Held, SheetAnswer}
 use Rattle.reading.proofs.Formed.{Fronted, fronted, parents-start, parents-count, parents-are}
 use Rattle.reading.proofs.Answered.{pair-posted, parents-few}
@@ -49,24 +49,24 @@ pub record Lengths (s : List ℕ) (r : Sheet) : Type 0 where
   pub count : r .edges ≡ length (parentsOf s)
   pub few : r .edges ≤ maxEdges
 
-pub accepted : (count : ℕ) (s : List ℕ) (r : Sheet) → SheetAnswer count s r → r .verdict ≡ Accepted → readNumber count s ≡ 0
-accepted count s r a e = sym (a .number) ∙ ap numberOf e
+pub accepted : (count : ℕ) (s : List ℕ) (r : Sheet) → SheetAnswer count s r → r .verdict ≡ Accepted → readTests count s ≡ pass
+accepted count s r a e = sym (a .answer) ∙ ap answerOf e
 
-module _ (count : ℕ) (s : List ℕ) (z : readNumber count s ≡ 0) where
-  behind-form : (pairNumber s orElse test 11 (edgesDiffer count s)) ≡ 0
-  behind-form = orElse-zero (formNumber count s) (pairNumber s orElse test 11 (edgesDiffer count s)) z .1
+module _ (count : ℕ) (s : List ℕ) (z : readTests count s ≡ pass) where
+  behind-form : (pairTests s orElse test 11 (edgesDiffer count s)) ≡ pass
+  behind-form = orElse-pass (formTests count s) (pairTests s orElse test 11 (edgesDiffer count s)) z .1
 
-  pub form-zero : formNumber count s ≡ 0
-  form-zero = orElse-zero (formNumber count s) (pairNumber s orElse test 11 (edgesDiffer count s)) z .0
+  pub form-passes : formTests count s ≡ pass
+  form-passes = orElse-pass (formTests count s) (pairTests s orElse test 11 (edgesDiffer count s)) z .0
 
-  pub pair-zero : pairNumber s ≡ 0
-  pair-zero = orElse-zero (pairNumber s) (test 11 (edgesDiffer count s)) behind-form .0
+  pub pair-passes : pairTests s ≡ pass
+  pair-passes = orElse-pass (pairTests s) (test 11 (edgesDiffer count s)) behind-form .0
 
   pub edges-same : edgesDiffer count s ≡ false
-  edges-same = test-zero 10 (edgesDiffer count s) (orElse-zero (pairNumber s) (test 11 (edgesDiffer count s)) behind-form .1)
+  edges-same = test-pass 11 (edgesDiffer count s) (orElse-pass (pairTests s) (test 11 (edgesDiffer count s)) behind-form .1)
 
   pub posted : Posted (strainsOf s) (distancesOf s) (parentsOf s)
-  posted = pair-posted s pair-zero
+  posted = pair-posted s pair-passes
 
   few-pairs : pairCount (strainsOf s) ≤ maxPairs
   few-pairs = pairs-few (strainsOf s) (posted .matrix .few)
@@ -76,7 +76,7 @@ module _ (count : ℕ) (s : List ℕ) (z : readNumber count s ≡ 0) where
 
   module _ (two : 2 ≤ count) (r : Sheet) (h : Held count s r) where
     here : Fronted s (startOf s 1) (startOf s 2)
-    here = fronted count s form-zero two (startOf s 1) (startOf s 2) refl refl
+    here = fronted count s form-passes two (startOf s 1) (startOf s 2) refl refl
 
     kept : r .distances ≡ padded 0 maxPairs (r .pairs) (distanceAt s)
     kept = h .distances ∙ ap (λ (k : ℕ). padded 0 maxPairs k (distanceAt s)) (sym (h .pairs))
@@ -98,12 +98,12 @@ module _ (count : ℕ) (s : List ℕ) (z : readNumber count s ≡ 0) where
     }
 
 -- three records
-module _ (s : List ℕ) (z : readNumber 3 s ≡ 0) (r : Sheet) (h : Held 3 s r) where
+module _ (s : List ℕ) (z : readTests 3 s ≡ pass) (r : Sheet) (h : Held 3 s r) where
   whole : edgesOf s ≡ verticesOf s - 1
   whole = eqb-true (edgesOf s) (verticesOf s - 1) (not-false (eqb (edgesOf s) (verticesOf s - 1)) (edges-same 3 s z))
 
   few : r .edges ≤ maxEdges
-  few = omega (arith, h .edges, whole, parents-few s (pair-zero 3 s z))
+  few = omega (arith, h .edges, whole, parents-few s (pair-passes 3 s z))
 
   lent : r .numerators ≡ padded (pos 0) maxEdges (r .edges) (numeratorAt s)
   lent = h .numerators ∙ ap (λ (k : ℕ). padded (pos 0) maxEdges k (numeratorAt s)) (sym (h .edges))

@@ -2,13 +2,12 @@
 use mathlib.Core.Path.{_≡_, sym, _∙_}
 use mathlib.Core.List.{List}
 use Prim.Native.Nat.{ℕ}
-use native.Mathlib.Decide.{ℕ-discrete}
 use lib.IntN.{ℤ}
 use Rattle.exact.proofs.Decide.{by-cases}
 use Rattle.verdict.specs.declared.Verdict.{Verdict}
-use Rattle.verdict.proofs.Answers.{same-answer}
+use Rattle.verdict.proofs.Answers.{passes, same-answer}
 use Rattle.reading.specs.declared.Sheet.{Sheet}
-use Rattle.reading.specs.Tests.{readNumber}
+use Rattle.reading.specs.Tests.{readTests}
 use Rattle.reading.specs.Reads.{Held, Blank, SheetAnswer}
 
 as-sheet : Verdict → ℕ → ℕ → List ℕ → ℕ → ℕ → ℕ → ℕ → List ℤ → Sheet
@@ -39,7 +38,7 @@ module _ (a b : Sheet) (v : a .verdict ≡ b .verdict) where
 
 pub one-sheet : (count : ℕ) (s : List ℕ) (a b : Sheet) → SheetAnswer count s a → SheetAnswer count s b → a ≡ b
 one-sheet count s a b p q =
-    let v = same-answer (a .verdict) (b .verdict) (p .number ∙ sym (q .number)) in
-    by-cases (ℕ-discrete (readNumber count s) 0)
+    let v = same-answer (a .verdict) (b .verdict) (p .answer ∙ sym (q .answer)) in
+    by-cases (passes (readTests count s))
     (λ z. same-held a b v count s (p .held z) (q .held z))
     (λ z. same-blank a b v (p .blank z) (q .blank z))

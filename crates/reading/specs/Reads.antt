@@ -1,10 +1,10 @@
--- What the reader of a sheet hands over: its number, and, where that is 0, what the records hold; zeros where it is not.
+-- What the reader of a sheet hands over: its answer, and, where that passes, what the records hold; zeros where it does not.
 use mathlib.Core.Path.{_≡_}
 use mathlib.Core.List.{List}
 use Prim.Native.Nat.{ℕ}
 use lib.IntN.{pos}
 use Rattle.exact.specs.Table.{table, padded}
-use Rattle.verdict.specs.Number.{numberOf, test}
+use Rattle.verdict.specs.Answer.{pass, answerOf, test}
 use Rattle.matrix.specs.Limits.{maxPairs}
 use Rattle.matrix.specs.Place.{pairCount}
 use Rattle.trees.specs.Limits.{maxEdges}
@@ -12,14 +12,14 @@ use Rattle.records.specs.Form.{startOf}
 use Rattle.reading.specs.declared.Sheet.{Sheet}
 use Rattle.reading.specs.declared.Proposal.{Proposal}
 use Rattle.reading.specs.Holds.{strainsOf, distanceAt, parentsAt, denominatorIn, edgesIn, numeratorAt}
-use Rattle.reading.specs.Tests.{edgesDiffer, readNumber}
+use Rattle.reading.specs.Tests.{edgesDiffer, readTests}
 
 -- the lengths of a sheet of so many records, or none where it has two: D, K, and the numerators, then zeros
 pub record Proposed (count : ℕ) (s : List ℕ) (r : Proposal) : Type 0 where
-  pub number : numberOf (r .verdict) ≡ test 11 (edgesDiffer count s)
-  pub denominator : numberOf (r .verdict) ≡ 0 → r .denominator ≡ denominatorIn count s
-  pub edges : numberOf (r .verdict) ≡ 0 → r .edges ≡ edgesIn count s
-  pub numerators : numberOf (r .verdict) ≡ 0 → r .numerators ≡ padded (pos 0) maxEdges (edgesIn count s) (numeratorAt s)
+  pub answer : answerOf (r .verdict) ≡ test 11 (edgesDiffer count s)
+  pub denominator : answerOf (r .verdict) ≡ pass → r .denominator ≡ denominatorIn count s
+  pub edges : answerOf (r .verdict) ≡ pass → r .edges ≡ edgesIn count s
+  pub numerators : answerOf (r .verdict) ≡ pass → r .numerators ≡ padded (pos 0) maxEdges (edgesIn count s) (numeratorAt s)
 
 -- N and the distances, then zeros; where the parents start and end among the bytes; the lengths
 pub record Held (count : ℕ) (s : List ℕ) (r : Sheet) : Type 0 where
@@ -45,6 +45,6 @@ pub record Blank (r : Sheet) : Type 0 where
 
 -- the whole answer
 pub record SheetAnswer (count : ℕ) (s : List ℕ) (r : Sheet) : Type 0 where
-  pub number : numberOf (r .verdict) ≡ readNumber count s
-  pub held : readNumber count s ≡ 0 → Held count s r
-  pub blank : (readNumber count s ≡ 0 → ⊥) → Blank r
+  pub answer : answerOf (r .verdict) ≡ readTests count s
+  pub held : readTests count s ≡ pass → Held count s r
+  pub blank : (readTests count s ≡ pass → ⊥) → Blank r

@@ -3,7 +3,9 @@
 use matrix::Matrix;
 use records::Layout;
 use tree::Tree;
+use verdict::Place;
 use verdict::Reason;
+use verdict::Refusal;
 use verdict::Verdict;
 ghost use mathlib.Core.Path.{_≡_};
 ghost use mathlib.Core.Bool.{not};
@@ -12,13 +14,13 @@ ghost use lib.Dec.{eqb};
 ghost use lib.IntN.{pos};
 ghost use lib.ListN.{length};
 ghost use Rattle.exact.specs.Table.{table, padded};
-ghost use Rattle.verdict.specs.Number.{numberOf, test, _orElse_};
+ghost use Rattle.verdict.specs.Answer.{pass, answerOf, test, _orElse_};
 ghost use Rattle.matrix.specs.Limits.{maxPairs};
-ghost use Rattle.matrix.specs.Tests.{matrixNumber};
+ghost use Rattle.matrix.specs.Tests.{matrixTests};
 ghost use Rattle.trees.specs.Limits.{maxEdges};
-ghost use Rattle.fit.specs.Tests.{postedNumber};
+ghost use Rattle.fit.specs.Tests.{postedTests};
 ghost use Rattle.endian.specs.Bytes.{number, twos};
-ghost use Rattle.records.specs.Form.{maxRecords, startOf, formNumber};
+ghost use Rattle.records.specs.Form.{maxRecords, startOf, formTests};
 ghost use Rattle.reading.specs.Holds.{verticesOf};
 ghost use Rattle.reading.specs.Reads.{Proposed, Blank, SheetAnswer};
 
@@ -82,11 +84,17 @@ fn numerators(s: &[u8], at: usize, count: usize) -> [i64; Tree::MAX_EDGES]
 
 // 4, 6 to 10: the matrix; 8 where the tree is for other strains; both together.
 fn posted(n: u32, other: u32, distances: &[u16], parents: &[u8]) -> Verdict
-    ensures { λ r. ⌜ numberOf r ≡ (matrixNumber n (now (distances .entry)) orElse test 8 (not (eqb other n)) orElse postedNumber n (now (distances .entry)) (now (parents .entry))) ⌝ }
+    ensures { λ r. ⌜ answerOf r ≡ (matrixTests n (now (distances .entry)) orElse test 8 (not (eqb other n)) orElse postedTests n (now (distances .entry)) (now (parents .entry))) ⌝ }
 {
     if other != n {
         let of_matrix = matrix::check_matrix(n, distances);
-        return verdict::or_else(of_matrix, Verdict::Refused(Reason::Vertices));
+        return verdict::or_else(
+            of_matrix,
+            Verdict::Refused(Refusal {
+                reason: Reason::Vertices,
+                place: Place::Nowhere,
+            }),
+        );
     }
     posting::check_posting(n, distances, parents)
 }
@@ -94,7 +102,7 @@ fn posted(n: u32, other: u32, distances: &[u16], parents: &[u8]) -> Verdict
 // The lengths of a sheet of the form, which start at `at`, beside a tree of so many edges: 11 where K is another
 // count. A sheet of two records has none.
 fn proposed_lengths(s: &[u8], count: usize, at: usize, edges: usize) -> Proposal
-    requires { ⌜ (2 ≤ count) × (count ≤ maxRecords) × (formNumber count (now s) ≡ 0) × (at ≡ startOf (now s) 2) ⌝ }
+    requires { ⌜ (2 ≤ count) × (count ≤ maxRecords) × (formTests count (now s) ≡ pass) × (at ≡ startOf (now s) 2) ⌝ }
     requires { ⌜ (edges ≡ verticesOf (now s) - 1) × (edges ≤ maxEdges) ⌝ }
     ensures { λ r. ⌜ Proposed count (now (s .entry)) r ⌝ }
 {
@@ -109,7 +117,10 @@ fn proposed_lengths(s: &[u8], count: usize, at: usize, edges: usize) -> Proposal
     let body = at + Layout::HEAD;
     if endian::u16_at(s, body + 4) as usize != edges {
         return Proposal {
-            verdict: Verdict::Refused(Reason::Edges),
+            verdict: Verdict::Refused(Refusal {
+                reason: Reason::Edges,
+                place: Place::Nowhere,
+            }),
             denominator: 0,
             edges: 0,
             numerators: lengths::no_lengths(),
@@ -124,11 +135,11 @@ fn proposed_lengths(s: &[u8], count: usize, at: usize, edges: usize) -> Proposal
 }
 
 // A refusal, with zeros everywhere.
-fn refused(reason: Reason) -> Sheet
-    ensures { λ r. ⌜ (r .verdict ≡ Verdict.Refused reason) × Blank r ⌝ }
+fn refused(refusal: Refusal) -> Sheet
+    ensures { λ r. ⌜ (r .verdict ≡ Verdict.Refused refusal) × Blank r ⌝ }
 {
     Sheet {
-        verdict: Verdict::Refused(reason),
+        verdict: Verdict::Refused(refusal),
         strains: 0,
         pairs: 0,
         distances: no_distances(),
@@ -143,12 +154,15 @@ fn refused(reason: Reason) -> Sheet
 // What a sheet of the form holds: 6 to 11. More strains than a matrix may have are refused before a distance is
 // read, another count than the tree's edges before a numerator is.
 fn held(s: &[u8], count: usize, tree: usize, end: usize) -> Sheet
-    requires { ⌜ (2 ≤ count) × (count ≤ maxRecords) × (formNumber count (now s) ≡ 0) × (tree ≡ startOf (now s) 1) × (end ≡ startOf (now s) 2) ⌝ }
+    requires { ⌜ (2 ≤ count) × (count ≤ maxRecords) × (formTests count (now s) ≡ pass) × (tree ≡ startOf (now s) 1) × (end ≡ startOf (now s) 2) ⌝ }
     ensures { λ r. ⌜ SheetAnswer count (now (s .entry)) r ⌝ }
 {
     let n = endian::u16_at(s, Layout::HEAD) as u32;
     if n as usize > Matrix::MAX_STRAINS {
-        return refused(Reason::Strains);
+        return refused(Refusal {
+            reason: Reason::Strains,
+            place: Place::Nowhere,
+        });
     }
     let pairs = matrix::pair_count(n) as usize;
     let measured = distances(s, Layout::HEAD + 2, pairs);
@@ -156,13 +170,13 @@ fn held(s: &[u8], count: usize, tree: usize, end: usize) -> Sheet
     let of_tree = endian::u16_at(s, body) as u32;
     let parents = body + 4;
     let of_pair = posted(n, of_tree, &measured[..pairs], &s[parents..end]);
-    if let Verdict::Refused(reason) = of_pair {
-        return refused(reason);
+    if let Verdict::Refused(refusal) = of_pair {
+        return refused(refusal);
     }
     let proposed = proposed_lengths(s, count, end, end - parents);
     let of_lengths = proposed.verdict;
-    if let Verdict::Refused(reason) = of_lengths {
-        return refused(reason);
+    if let Verdict::Refused(refusal) = of_lengths {
+        return refused(refusal);
     }
     let lengths = proposed.numerators;
     Sheet {
@@ -186,7 +200,7 @@ pub fn read(s: &[u8], count: usize) -> Sheet
     let laid = records::records(s, count);
     let of_form = laid.verdict;
     match of_form {
-        Verdict::Refused(reason) => refused(reason),
+        Verdict::Refused(refusal) => refused(refusal),
         Verdict::Accepted => held(s, count, laid.starts[1], laid.starts[2]),
     }
 }

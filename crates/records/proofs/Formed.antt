@@ -5,30 +5,31 @@ use Prim.Native.Nat.{ℕ, suc, _+_, _<_, _≤_}
 use borrow.Author.Tests.{ltb-false}
 use lib.Dec.{ltb}
 use lib.ListN.{length}
-use Rattle.verdict.specs.Number.{test, _orElse_}
-use Rattle.verdict.proofs.Answers.{orElse-zero, test-zero}
-use Rattle.records.specs.Form.{maxSheet, kindOf, bodyAt, bodyLength, countAt, startOf, recordsNumber, formNumber}
+use Rattle.verdict.specs.declared.Place.the-variants.{Byte}
+use Rattle.verdict.specs.Answer.{Answer, pass, test, testAt, _orElse_}
+use Rattle.verdict.proofs.Answers.{orElse-pass, test-pass, testAt-pass}
+use Rattle.records.specs.Form.{maxSheet, kindOf, bodyAt, bodyLength, countAt, startOf, recordsTests, formTests}
 use Rattle.records.proofs.Counts.{counted}
 use Rattle.records.proofs.InTurn.{record-there, record-counted, next-start, each-passes}
 
-module _ (count : ℕ) (s : List ℕ) (z : formNumber count s ≡ 0) where
-  abbrev left : ℕ
-  left = test 5 (ltb (startOf s count) (length s))
+module _ (count : ℕ) (s : List ℕ) (z : formTests count s ≡ pass) where
+  abbrev left : Answer
+  left = testAt 5 (Byte (startOf s count)) (ltb (startOf s count) (length s))
 
   -- at most the longest
   pub form-short : length s ≤ maxSheet
   form-short =
-      ltb-false maxSheet (length s) (test-zero 0 (ltb maxSheet (length s)) (orElse-zero (test 1 (ltb maxSheet (length s))) (recordsNumber s count orElse left) z .0))
+      ltb-false maxSheet (length s) (test-pass 1 (ltb maxSheet (length s)) (orElse-pass (test 1 (ltb maxSheet (length s))) (recordsTests s count orElse left) z .0))
 
-  behind-first : (recordsNumber s count orElse left) ≡ 0
-  behind-first = orElse-zero (test 1 (ltb maxSheet (length s))) (recordsNumber s count orElse left) z .1
+  behind-first : (recordsTests s count orElse left) ≡ pass
+  behind-first = orElse-pass (test 1 (ltb maxSheet (length s))) (recordsTests s count orElse left) z .1
 
   -- nothing stands behind the last record
   pub form-whole : length s ≤ startOf s count
-  form-whole = ltb-false (startOf s count) (length s) (test-zero 4 (ltb (startOf s count) (length s)) (orElse-zero (recordsNumber s count) left behind-first .1))
+  form-whole = ltb-false (startOf s count) (length s) (testAt-pass 5 (Byte (startOf s count)) (ltb (startOf s count) (length s)) (orElse-pass (recordsTests s count) left behind-first .1))
 
-  passed : recordsNumber s count ≡ 0
-  passed = orElse-zero (recordsNumber s count) left behind-first .0
+  passed : recordsTests s count ≡ pass
+  passed = orElse-pass (recordsTests s count) left behind-first .0
 
   -- record k is there, and as long as its counts say
   module _ (k : ℕ) (l : k < count) where

@@ -2,18 +2,17 @@
 use mathlib.Core.Path.{_≡_, sym, _∙_, ap₂}
 use mathlib.Core.List.{List}
 use Prim.Native.Nat.{ℕ}
-use native.Mathlib.Decide.{ℕ-discrete}
 use Rattle.exact.proofs.Decide.{by-cases}
 use Rattle.verdict.specs.declared.Verdict.{Verdict}
-use Rattle.verdict.proofs.Answers.{same-answer}
+use Rattle.verdict.proofs.Answers.{passes, same-answer}
 use Rattle.records.specs.declared.Layout.{Layout}
-use Rattle.records.specs.Form.{formNumber}
+use Rattle.records.specs.Form.{formTests}
 use Rattle.records.specs.Laid.{LayoutAnswer}
 
 pub one-layout : (count : ℕ) (s : List ℕ) (a b : Layout) → LayoutAnswer count s a → LayoutAnswer count s b → a ≡ b
 one-layout count s a b p q =
-    ap₂ (λ (v : Verdict) (l : List ℕ). as-layout v l) (same-answer (a .verdict) (b .verdict) (p .number ∙ sym (q .number)))
-    (by-cases (ℕ-discrete (formNumber count s) 0) (λ z. p .starts z ∙ sym (q .starts z)) (λ z. p .none z ∙ sym (q .none z)))
+    ap₂ (λ (v : Verdict) (l : List ℕ). as-layout v l) (same-answer (a .verdict) (b .verdict) (p .answer ∙ sym (q .answer)))
+    (by-cases (passes (formTests count s)) (λ z. p .starts z ∙ sym (q .starts z)) (λ z. p .none z ∙ sym (q .none z)))
   where
     as-layout : Verdict → List ℕ → Layout
     as-layout v l = record { verdict = v; starts = l }

@@ -6,7 +6,8 @@ use mathlib.Core.List.{List}
 use Prim.Native.Nat.{ℕ, zero, suc, _+_, _-_, _*_}
 use lib.Dec.{eqb, ltb}
 use lib.ListN.{length}
-use Rattle.verdict.specs.Number.{test, _orElse_}
+use Rattle.verdict.specs.declared.Place.the-variants.{Byte}
+use Rattle.verdict.specs.Answer.{Answer, pass, test, testAt, _orElse_}
 use Rattle.matrix.specs.Limits.{maxPairs}
 use Rattle.trees.specs.Limits.{maxEdges}
 use Rattle.endian.specs.Bytes.{number}
@@ -69,13 +70,13 @@ countsOut s at kind =
     ltb (sizeAt s at) (countsSize kind)
     || (noVertices kind (countAt s at kind) || not (eqb (sizeAt s at) (bodyLength kind (countAt s at kind))))
 
--- one record: 2 and 3 for its head, then 4
-abbrev pub recordNumber : List ℕ → ℕ → ℕ → ℕ
-recordNumber s at kind =
-    test 2 (headCut s at)
-    orElse test 2 (bodyCut s at)
-    orElse test 3 (not (eqb (kindAt s at) kind))
-    orElse test 4 (countsOut s at kind)
+-- one record: 2 and 3 for its head, then 4, each at the byte where the record starts
+abbrev pub recordTests : List ℕ → ℕ → ℕ → Answer
+recordTests s at kind =
+    testAt 2 (Byte at) (headCut s at)
+    orElse testAt 2 (Byte at) (bodyCut s at)
+    orElse testAt 3 (Byte at) (not (eqb (kindAt s at) kind))
+    orElse testAt 4 (Byte at) (countsOut s at kind)
 
 -- where record k starts, counted from 0: behind the one before it
 unfoldable pub startOf : List ℕ → ℕ → ℕ
@@ -83,13 +84,13 @@ startOf s zero = 0
 startOf s (suc k) = endAt s (startOf s k)
 
 -- 2, 3, 4 for the first k records, in turn
-unfoldable pub recordsNumber : List ℕ → ℕ → ℕ
-recordsNumber s zero = 0
-recordsNumber s (suc k) = recordsNumber s k orElse recordNumber s (startOf s k) (kindOf k)
+unfoldable pub recordsTests : List ℕ → ℕ → Answer
+recordsTests s zero = pass
+recordsTests s (suc k) = recordsTests s k orElse recordTests s (startOf s k) (kindOf k)
 
--- the form of a sheet of so many records: 1; 2, 3, 4 for each in turn; 5
-abbrev pub formNumber : ℕ → List ℕ → ℕ
-formNumber count s =
+-- the form of a sheet of so many records: 1; 2, 3, 4 for each in turn; 5 at the first byte behind the last record
+abbrev pub formTests : ℕ → List ℕ → Answer
+formTests count s =
     test 1 (ltb maxSheet (length s))
-    orElse recordsNumber s count
-    orElse test 5 (ltb (startOf s count) (length s))
+    orElse recordsTests s count
+    orElse testAt 5 (Byte (startOf s count)) (ltb (startOf s count) (length s))

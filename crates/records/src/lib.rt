@@ -5,14 +5,16 @@
 //   lengths  = kind 3: D (4), K (2), then the K numerators (8 each, two's complement)
 use matrix::Matrix;
 use tree::Tree;
+use verdict::Place;
 use verdict::Reason;
+use verdict::Refusal;
 use verdict::Verdict;
 ghost use mathlib.Core.Path.{_≡_};
 ghost use Prim.Native.Nat.{_<_, _≤_};
 ghost use lib.ListN.{length};
 ghost use Rattle.exact.specs.Table.{table};
-ghost use Rattle.verdict.specs.Number.{numberOf};
-ghost use Rattle.records.specs.Form.{maxRecords, kindOf, endAt, countsOut, recordNumber};
+ghost use Rattle.verdict.specs.Answer.{answerOf};
+ghost use Rattle.records.specs.Form.{maxRecords, kindOf, endAt, countsOut, recordTests};
 ghost use Rattle.records.specs.Laid.{maxStarts, LayoutAnswer};
 
 // Where each record of a sheet of the form starts, then where the last one ends, then zeros.
@@ -65,23 +67,35 @@ fn counts_out(s: &[u8], at: usize, kind: usize) -> bool
     size != 6 + 8 * count
 }
 
-// 2, 3, 4 for the record of that kind that starts at `at`.
+// 2, 3, 4 for the record of that kind that starts at `at`, which is the place of each.
 fn one_record(s: &[u8], at: usize, kind: usize) -> Verdict
     requires { ⌜ (1 ≤ kind) × (kind ≤ maxRecords) × (at ≤ length (now s)) ⌝ }
-    ensures { λ r. ⌜ numberOf r ≡ recordNumber (now (s .entry)) at kind ⌝ }
+    ensures { λ r. ⌜ answerOf r ≡ recordTests (now (s .entry)) at kind ⌝ }
 {
     let left = s.len() - at;
     if left < Layout::HEAD {
-        return Verdict::Refused(Reason::RecordCut);
+        return Verdict::Refused(Refusal {
+            reason: Reason::RecordCut,
+            place: Place::Byte(at),
+        });
     }
     if left - Layout::HEAD < endian::u32_at(s, at) as usize {
-        return Verdict::Refused(Reason::RecordCut);
+        return Verdict::Refused(Refusal {
+            reason: Reason::RecordCut,
+            place: Place::Byte(at),
+        });
     }
     if endian::u16_at(s, at + 4) as usize != kind {
-        return Verdict::Refused(Reason::WrongKind);
+        return Verdict::Refused(Refusal {
+            reason: Reason::WrongKind,
+            place: Place::Byte(at),
+        });
     }
     if counts_out(s, at, kind) {
-        return Verdict::Refused(Reason::WrongCounts);
+        return Verdict::Refused(Refusal {
+            reason: Reason::WrongCounts,
+            place: Place::Byte(at),
+        });
     }
     Verdict::Accepted
 }
@@ -92,23 +106,27 @@ fn no_starts() -> [usize; Layout::MAX_STARTS]
     [0; Layout::MAX_STARTS]
 }
 
-// A refusal, with no places.
-fn refused(reason: Reason) -> Layout
-    ensures { λ r. ⌜ (r .verdict ≡ Verdict.Refused reason) × (r .starts ≡ table maxStarts (λ _. 0)) ⌝ }
+// A refusal, with no starts.
+fn refused(refusal: Refusal) -> Layout
+    ensures { λ r. ⌜ (r .verdict ≡ Verdict.Refused refusal) × (r .starts ≡ table maxStarts (λ _. 0)) ⌝ }
 {
     Layout {
-        verdict: Verdict::Refused(reason),
+        verdict: Verdict::Refused(refusal),
         starts: no_starts(),
     }
 }
 
-// The form of a sheet of so many records, three or, without lengths, two: 1; 2, 3, 4 for each record in turn; 5.
+// The form of a sheet of so many records, three or, without lengths, two: 1; 2, 3, 4 for each record in turn; 5 at the first
+// byte behind the last record.
 pub fn records(s: &[u8], count: usize) -> Layout
     requires { ⌜ count ≤ maxRecords ⌝ }
     ensures { λ r. ⌜ LayoutAnswer count (now (s .entry)) r ⌝ }
 {
     if s.len() > Layout::MAX_SHEET {
-        return refused(Reason::SheetTooLong);
+        return refused(Refusal {
+            reason: Reason::SheetTooLong,
+            place: Place::Nowhere,
+        });
     }
     let mut starts = no_starts();
     let mut at = 0;
@@ -116,15 +134,18 @@ pub fn records(s: &[u8], count: usize) -> Layout
     while k < count {
         starts[k] = at;
         let of_record = one_record(s, at, kind_of(k));
-        if let Verdict::Refused(reason) = of_record {
-            return refused(reason);
+        if let Verdict::Refused(refusal) = of_record {
+            return refused(refusal);
         }
         at = at + Layout::HEAD + endian::u32_at(s, at) as usize;
         k += 1;
     }
     starts[count] = at;
     if at < s.len() {
-        return refused(Reason::BytesLeft);
+        return refused(Refusal {
+            reason: Reason::BytesLeft,
+            place: Place::Byte(at),
+        });
     }
     Layout {
         verdict: Verdict::Accepted,

@@ -1,5 +1,5 @@
-// Reads a sheet from standard input and prints its report, or `refused` and the number. Where reading fails it
-// prints nothing.
+// Reads a sheet from standard input and prints its report, or `refused`, the number and the place. Where
+// reading fails it prints nothing.
 fn main() {
     let mut space = desk::room();
     let taken = desk::take_in(&mut space);
@@ -7,5 +7,5 @@ fn main() {
         return;
     }
     let mut text = prints::page();
-    desk::put_out(prints::sheet_text(&space[..taken.count], &mut text), &text);
+    desk::put_out(prints::sheet_print(&space[..taken.count], &mut text), &text);
 }

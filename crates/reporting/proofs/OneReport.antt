@@ -2,11 +2,11 @@
 use mathlib.Core.Path.{_≡_, sym, _∙_, ap, ap₂}
 use mathlib.Core.List.{List}
 use Prim.Native.Nat.{ℕ}
-use native.Mathlib.Decide.{ℕ-discrete}
 use lib.IntN.{ℤ}
 use Rattle.exact.proofs.Decide.{by-cases}
 use Rattle.verdict.specs.declared.Verdict.{Verdict}
-use Rattle.verdict.proofs.Answers.{same-answer}
+use Rattle.verdict.specs.Answer.{Answer, pass}
+use Rattle.verdict.proofs.Answers.{same-answer, passes}
 use Rattle.reporting.specs.declared.FitReport.{FitReport}
 use Rattle.reporting.specs.Answers.{Reported, Silent, Report}
 
@@ -32,7 +32,7 @@ same-report x y e s =
     whole : Verdict → ℕ → ℕ → ℕ → ℤ → ℤ → ℤ → ℤ → ℤ → FitReport
     whole v a b c z f r h m = record { verdict = v; strains = a; edges = b; denominator = c; length = z; f = f; r = r; h = h; mean = m }
 
-module _ (k N : ℕ) (ds ps : List ℕ) (D : ℕ) (ns before after after′ : List ℤ) (x y : FitReport)
+module _ (k : Answer) (N : ℕ) (ds ps : List ℕ) (D : ℕ) (ns before after after′ : List ℤ) (x y : FitReport)
     (p : Report k N ds ps D ns before after x) (q : Report k N ds ps D ns before after′ y) where
   fits : Reported N ds ps D ns after x → Reported N ds ps D ns after′ y → SameNumbers x y
   fits a b = record {
@@ -60,10 +60,10 @@ module _ (k N : ℕ) (ds ps : List ℕ) (D : ℕ) (ns before after after′ : Li
 
   pub one-report : (x ≡ y) × (after ≡ after′)
   one-report = (
-    same-report x y (same-answer (x .verdict) (y .verdict) (p .number ∙ sym (q .number)))
+    same-report x y (same-answer (x .verdict) (y .verdict) (p .answer ∙ sym (q .answer)))
         (by-cases here (λ z. fits (p .reported z) (q .reported z)) (λ z. none (p .silent z) (q .silent z))),
     by-cases here (λ z. p .reported z .rounded ∙ sym (q .reported z .rounded)) (λ z. p .kept z ∙ sym (q .kept z)),
   )
     where
-      here : Dec (k ≡ 0)
-      here = ℕ-discrete k 0
+      here : Dec (k ≡ pass)
+      here = passes k

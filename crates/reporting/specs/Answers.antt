@@ -5,13 +5,13 @@ use Prim.Native.Nat.{ℕ, _*_, _≤_}
 use lib.IntN.{ℤ, pos, natAbs}
 use lib.ListN.{length}
 use Rattle.exact.specs.Table.{table}
-use Rattle.verdict.specs.Number.{numberOf, test, _orElse_}
+use Rattle.verdict.specs.Answer.{Answer, pass, answerOf, test, _orElse_}
 use Rattle.matrix.specs.Place.{pairCount}
 use Rattle.trees.specs.Limits.{maxEdges}
 use Rattle.lengths.specs.Limits.{maxNumerator}
 use Rattle.fit.specs.Quantities.{roundedOf, treeLength, fOf, rOf, hOf}
 use Rattle.fit.specs.Stands.{Stands, Least}
-use Rattle.fit.specs.Tests.{bufferOut, proposalNumber, reportNumber}
+use Rattle.fit.specs.Tests.{bufferOut, proposalTests, reportTests}
 use Rattle.reporting.specs.declared.FitReport.{FitReport}
 
 -- no tree length is farther from 0, over its denominator
@@ -45,20 +45,20 @@ pub record Silent (x : FitReport) : Type 0 where
   pub h : x .h ≡ pos 0
   pub mean : x .mean ≡ pos 0
 
--- a report of the number k: the numbers and the rounded lengths where k is 0, otherwise nothing and the buffer as it was
-pub record Report (k N : ℕ) (ds ps : List ℕ) (D : ℕ) (ns before after : List ℤ) (x : FitReport) : Type 0 where
-  pub number : numberOf (x .verdict) ≡ k
-  pub reported : k ≡ 0 → Reported N ds ps D ns after x
-  pub silent : (k ≡ 0 → ⊥) → Silent x
-  pub kept : (k ≡ 0 → ⊥) → after ≡ before
+-- a report of the answer a: the numbers and the rounded lengths where it passes, otherwise nothing and the buffer as it was
+pub record Report (a : Answer) (N : ℕ) (ds ps : List ℕ) (D : ℕ) (ns before after : List ℤ) (x : FitReport) : Type 0 where
+  pub answer : answerOf (x .verdict) ≡ a
+  pub reported : a ≡ pass → Reported N ds ps D ns after x
+  pub silent : (a ≡ pass → ⊥) → Silent x
+  pub kept : (a ≡ pass → ⊥) → after ≡ before
 
 -- of lengths beside a matrix and a tree that pass: 11 to 15
-abbrev pub proposalReportNumber : ℕ → List ℕ → List ℕ → ℕ → List ℤ → ℕ → ℕ
-proposalReportNumber N ds ps D ns size = proposalNumber N ds ps D ns orElse test 15 (bufferOut size (length ps))
+abbrev pub proposalReportTests : ℕ → List ℕ → List ℕ → ℕ → List ℤ → ℕ → Answer
+proposalReportTests N ds ps D ns size = proposalTests N ds ps D ns orElse test 15 (bufferOut size (length ps))
 
 abbrev pub ProposalReport : (N : ℕ) → (ds ps : List ℕ) → (D : ℕ) → (ns before after : List ℤ) → FitReport → Type 0
-ProposalReport N ds ps D ns before after x = Report (proposalReportNumber N ds ps D ns (length before)) N ds ps D ns before after x
+ProposalReport N ds ps D ns before after x = Report (proposalReportTests N ds ps D ns (length before)) N ds ps D ns before after x
 
 -- of all that is lent: 4, 6 to 15
 abbrev pub ReportAnswer : (N : ℕ) → (ds ps : List ℕ) → (D : ℕ) → (ns before after : List ℤ) → FitReport → Type 0
-ReportAnswer N ds ps D ns before after x = Report (reportNumber N ds ps D ns (length before)) N ds ps D ns before after x
+ReportAnswer N ds ps D ns before after x = Report (reportTests N ds ps D ns (length before)) N ds ps D ns before after x

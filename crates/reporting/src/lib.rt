@@ -1,6 +1,8 @@
 // The report of a fit, over lent slices: its numbers, and its rounded lengths in a lent buffer. A refusal reports nothing
 // and leaves the buffer as it was.
+use verdict::Place;
 use verdict::Reason;
+use verdict::Refusal;
 use verdict::Verdict;
 ghost use mathlib.Core.Path.{_≡_};
 ghost use lib.ListN.{length};
@@ -22,11 +24,11 @@ pub struct FitReport {
 }
 
 // The report of a refusal: its verdict, and nothing more.
-pub fn silent(reason: Reason) -> FitReport
-    ensures { λ r. ⌜ (r .verdict ≡ Verdict.Refused reason) × Silent r ⌝ }
+pub fn silent(refusal: Refusal) -> FitReport
+    ensures { λ r. ⌜ (r .verdict ≡ Verdict.Refused refusal) × Silent r ⌝ }
 {
     FitReport {
-        verdict: Verdict::Refused(reason),
+        verdict: Verdict::Refused(refusal),
         strains: 0,
         edges: 0,
         denominator: 0,
@@ -94,11 +96,14 @@ pub fn report_proposal(
     ensures { λ r. ⌜ ProposalReport n (now (distances .entry)) (now (parents .entry)) d (now (numerators .entry)) (now (rounded .entry)) (now (rounded .exit)) r ⌝ }
 {
     let found = judging::judge_proposal(n, distances, parents, d, numerators);
-    if let Verdict::Refused(reason) = found {
-        return silent(reason);
+    if let Verdict::Refused(refusal) = found {
+        return silent(refusal);
     }
     if rounded.len() != parents.len() {
-        return silent(Reason::Buffer);
+        return silent(Refusal {
+            reason: Reason::Buffer,
+            place: Place::Nowhere,
+        });
     }
     numbered(n, distances, parents, d, numerators, rounded)
 }
@@ -115,8 +120,8 @@ pub fn report(
     ensures { λ r. ⌜ ReportAnswer n (now (distances .entry)) (now (parents .entry)) d (now (numerators .entry)) (now (rounded .entry)) (now (rounded .exit)) r ⌝ }
 {
     let posted = posting::check_posting(n, distances, parents);
-    if let Verdict::Refused(reason) = posted {
-        return silent(reason);
+    if let Verdict::Refused(refusal) = posted {
+        return silent(refusal);
     }
     report_proposal(n, distances, parents, d, numerators, rounded)
 }

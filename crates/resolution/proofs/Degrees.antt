@@ -8,8 +8,8 @@ use native.Mathlib.Omega.{arith}
 use borrow.Author.Tests.{lt-ltb, le-ltb}
 use lib.Dec.{eqb, ltb}
 use Rattle.exact.proofs.Decide.{by-cases, eq-yes, eq-no}
-use Rattle.verdict.specs.Table.{some}
-use Rattle.verdict.proofs.Table.{some-none, some-cong}
+use Rattle.verdict.specs.Table.{some, first}
+use Rattle.verdict.proofs.Table.{some-none, first-cong}
 use Rattle.trees.specs.Allowed.{children}
 use Rattle.trees.specs.Tests.{childrenOut}
 use Rattle.resolution.specs.Children.{degree, degreeOut, Resolved}
@@ -30,8 +30,8 @@ module _ (N K : ℕ) (par : ℕ → ℕ) where
   degree-at : (w : ℕ) → childrenOut 0 N K par w ≡ degreeOut N K par w
   degree-at w = by-cases (decLt w N) (λ l. rw (lt-ltb w N l)) (λ l. rw (le-ltb w N (omega arith)) (by-root (eqb w K) (children K par w)))
 
-  pub degree-is : some (K + 1) (childrenOut 0 N K par) ≡ some (K + 1) (degreeOut N K par)
-  degree-is = some-cong (K + 1) _ _ (λ w _. degree-at w)
+  pub degree-is : first (K + 1) (childrenOut 0 N K par) ≡ first (K + 1) (degreeOut N K par)
+  degree-is = first-cong (K + 1) _ _ (λ w _. degree-at w)
 
   -- an inner vertex of another degree is out
   out : (w : ℕ) → N ≤ w → degree K par w ≢ 3 → degreeOut N K par w ≡ true

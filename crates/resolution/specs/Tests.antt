@@ -1,26 +1,26 @@
--- The number that a matrix and a tree to be fitted with no proposal get: 4, 6 to 10, 25, 15.
+-- The answer that a matrix and a tree to be fitted with no proposal get: 4, 6 to 10, 25, 15.
 use mathlib.Core.Bool.{Bool, _||_}
 use mathlib.Core.List.{List}
 use Prim.Native.Nat.{ℕ, _+_}
 use lib.ListN.{length}
-use Rattle.verdict.specs.Number.{test, _orElse_}
-use Rattle.verdict.specs.Table.{some}
+use Rattle.verdict.specs.Answer.{Answer, fault, test, atFirst, _orElse_}
+use Rattle.verdict.specs.declared.Place.the-variants.{Vertex}
 use Rattle.trees.specs.Chain.{parentOf}
-use Rattle.fit.specs.Tests.{bufferOut, postedNumber}
+use Rattle.fit.specs.Tests.{bufferOut, postedTests}
 use Rattle.resolution.specs.Children.{degreeOut}
 
--- 25: some inner vertex not of degree three
-abbrev pub unresolved : ℕ → List ℕ → Bool
-unresolved N ps = some (length ps + 1) (degreeOut N (length ps) (parentOf ps))
+-- 25: the lowest inner vertex not of degree three
+abbrev pub degreeTests : ℕ → List ℕ → Answer
+degreeTests N ps = atFirst (length ps + 1) (degreeOut N (length ps) (parentOf ps)) (λ w. fault 25 (Vertex w))
 
 -- 15: some of three lent buffers does not have an entry for each of K edges
 abbrev pub buffersOut : ℕ → (a b c : ℕ) → Bool
 buffersOut K a b c = bufferOut a K || (bufferOut b K || bufferOut c K)
 
 -- what the matrix and the tree are asked: 4, 6 to 10, 25
-abbrev pub resolvedNumber : ℕ → List ℕ → List ℕ → ℕ
-resolvedNumber N ds ps = postedNumber N ds ps orElse test 25 (unresolved N ps)
+abbrev pub resolvedTests : ℕ → List ℕ → List ℕ → Answer
+resolvedTests N ds ps = postedTests N ds ps orElse degreeTests N ps
 
 -- with buffers of a, b and c entries
-abbrev pub directNumber : ℕ → List ℕ → List ℕ → (a b c : ℕ) → ℕ
-directNumber N ds ps a b c = resolvedNumber N ds ps orElse test 15 (buffersOut (length ps) a b c)
+abbrev pub directTests : ℕ → List ℕ → List ℕ → (a b c : ℕ) → Answer
+directTests N ds ps a b c = resolvedTests N ds ps orElse test 15 (buffersOut (length ps) a b c)

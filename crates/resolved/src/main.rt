@@ -1,5 +1,5 @@
-// Reads a sheet without lengths from standard input and prints the direct fit of its tree, or `refused` and the
-// number. Where reading fails it prints nothing.
+// Reads a sheet without lengths from standard input and prints the direct fit of its tree, or `refused`, the
+// number and the place. Where reading fails it prints nothing.
 fn main() {
     let mut space = desk::room();
     let taken = desk::take_in(&mut space);
@@ -8,7 +8,7 @@ fn main() {
     }
     let mut text = prints::page();
     desk::put_out(
-        prints::unfitted_text(&space[..taken.count], &mut text),
+        prints::unfitted_print(&space[..taken.count], &mut text),
         &text,
     );
 }

@@ -1,13 +1,16 @@
 -- A matrix and a resolved tree that pass: the split sums are in range, so the lengths by them are the tree's own, these are a fit
 -- (`direct`), and their rounding can be summed over (`ready-rounded`, `r-within`).
 use mathlib.Core.Path.{_≡_, sym, _∙_, ap, ap₂, subst}
-use mathlib.Core.Bool.{Bool, false, cond}
+use mathlib.Core.Bool.{cond}
 use mathlib.Core.List.{List, []}
 use Prim.Native.Nat.{ℕ, _≤_, _<_}
 use native.Mathlib.Omega.{arith}
 use borrow.Author.Tests.{lt-ltb}
 use lib.IntN.{ℤ, pos, _-ℤ_, _*ℤ_, natAbs}
 use lib.ListN.{length, getD}
+use Rattle.verdict.specs.declared.Place.the-variants.{Vertex}
+use Rattle.verdict.specs.Answer.{pass}
+use Rattle.verdict.proofs.Answers.{refuses, first-pass}
 use Rattle.exact.specs.Order.{_≤ᶻ_, Within}
 use Rattle.exact.specs.Sum.{pairs}
 use Rattle.exact.specs.Table.{table, entryOf}
@@ -34,7 +37,7 @@ use Rattle.pairs.proofs.Lent.{near, few-edges}
 use Rattle.tables.specs.Answers.{SplitTable}
 use Rattle.resolution.specs.Children.{Resolved}
 use Rattle.resolution.specs.Splits.{splitAt, maxSplit, Gathered, SplitSums, lengthBy}
-use Rattle.resolution.specs.Tests.{unresolved}
+use Rattle.resolution.specs.Tests.{degreeTests}
 use Rattle.resolution.specs.Lengths.{lengthOf, topOf, bottomOf, thousandthOf, squareOf, Direct}
 use Rattle.resolution.proofs.BySplits.{edge-positive}
 use Rattle.resolution.proofs.Degrees.{resolved}
@@ -45,7 +48,7 @@ use Rattle.neighbours.specs.Listed.{Listed}
 use Rattle.edge_lengths.specs.Known.{Known}
 use Rattle.edge_lengths.specs.Tables.{Lowered}
 
-module _ (N : ℕ) (ds ps : List ℕ) (posted : Posted N ds ps) (passed : unresolved N ps ≡ false) where
+module _ (N : ℕ) (ds ps : List ℕ) (posted : Posted N ds ps) (passed : degreeTests N ps ≡ pass) where
   abbrev K : ℕ
   K = length ps
 
@@ -59,7 +62,7 @@ module _ (N : ℕ) (ds ps : List ℕ) (posted : Posted N ds ps) (passed : unreso
   ok = posted .tree
 
   pub res : Resolved N K par
-  res = resolved N K par passed
+  res = resolved N K par (first-pass _ _ _ (λ w. refuses 25 (Vertex w)) passed)
 
   range : (p : ℕ × ℕ) → (pos 0 ≤ᶻ d p) × (d p ≤ᶻ pos maxDistance)
   range p = (nn-pos (getD ds (place N (p .0) (p .1)) 0), pos-≤ (near (posted .matrix) (place N (p .0) (p .1))))

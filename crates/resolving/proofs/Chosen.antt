@@ -9,29 +9,30 @@ use borrow.Author.Tests.{ne-eqb}
 use lib.IntN.{ℤ, pos}
 use lib.ListN.{length}
 use Rattle.exact.proofs.Decide.{by-cases, eq-yes}
-use Rattle.verdict.specs.Number.{numberOf, refusalOf, test, _orElse_}
-use Rattle.verdict.specs.declared.Reason.{Reason}
+use Rattle.verdict.specs.Answer.{Answer, pass, fault, answerOf, refusalOf, test, _orElse_}
+use Rattle.verdict.specs.declared.Place.the-variants.{Nowhere}
+use Rattle.verdict.specs.declared.Refusal.{Refusal}
 use Rattle.verdict.specs.declared.Verdict.the-variants.{Accepted, Refused}
 use Rattle.verdict.specs.declared.Verdict.{Verdict}
-use Rattle.verdict.proofs.Answers.{orElse-zero, orElse-assoc, refused-row, accepted-row, not-zero, test-zero, or-none}
+use Rattle.verdict.proofs.Answers.{orElse-pass, orElse-assoc, refused-row, accepted-row, not-pass, test-pass, or-none}
 use Rattle.fit.specs.Stands.{Posted}
-use Rattle.fit.specs.Tests.{bufferOut, postedNumber}
+use Rattle.fit.specs.Tests.{bufferOut, postedTests}
 use Rattle.fit.proofs.Exactly.{→posted}
-use Rattle.resolution.specs.Tests.{unresolved, buffersOut, resolvedNumber, directNumber}
+use Rattle.resolution.specs.Tests.{degreeTests, buffersOut, resolvedTests, directTests}
 use Rattle.resolving.specs.declared.DirectFit.{DirectFit}
 use Rattle.resolving.specs.Answers.{Resolves, DirectAnswer}
 
 -- ---- the three sizes
-pub one-size : (K a b c : ℕ) → (a ≡ K → ⊥) → 15 ≡ test 15 (buffersOut K a b c)
+pub one-size : (K a b c : ℕ) → (a ≡ K → ⊥) → fault 15 Nowhere ≡ test 15 (buffersOut K a b c)
 one-size K a b c h = rw (ne-eqb a K h)
 
-pub two-size : (K a b c : ℕ) → a ≡ K → (b ≡ K → ⊥) → 15 ≡ test 15 (buffersOut K a b c)
+pub two-size : (K a b c : ℕ) → a ≡ K → (b ≡ K → ⊥) → fault 15 Nowhere ≡ test 15 (buffersOut K a b c)
 two-size K a b c e h = rw (eq-yes e, ne-eqb b K h)
 
-pub three-size : (K a b c : ℕ) → a ≡ K → b ≡ K → (c ≡ K → ⊥) → 15 ≡ test 15 (buffersOut K a b c)
+pub three-size : (K a b c : ℕ) → a ≡ K → b ≡ K → (c ≡ K → ⊥) → fault 15 Nowhere ≡ test 15 (buffersOut K a b c)
 three-size K a b c e f h = rw (eq-yes e, eq-yes f, ne-eqb c K h)
 
-pub all-sizes : (K a b c : ℕ) → a ≡ K → b ≡ K → c ≡ K → 0 ≡ test 15 (buffersOut K a b c)
+pub all-sizes : (K a b c : ℕ) → a ≡ K → b ≡ K → c ≡ K → pass ≡ test 15 (buffersOut K a b c)
 all-sizes K a b c e f g = rw (eq-yes e, eq-yes f, eq-yes g)
 
 same-size : (a b : ℕ) → bufferOut a b ≡ false → a ≡ b
@@ -41,66 +42,66 @@ same-size a b e = by-cases (ℕ-discrete a b) (λ q. q) (λ n. absurd (false≢t
     off n = rw (ne-eqb a b n)
 
 -- ---- the tests in order, where v answers those of the matrix with the tree
-module _ (N : ℕ) (ds ps : List ℕ) (a b c : ℕ) (v : Verdict) (asked : numberOf v ≡ postedNumber N ds ps) where
-  abbrev rest : ℕ
-  rest = test 25 (unresolved N ps) orElse test 15 (buffersOut (length ps) a b c)
+module _ (N : ℕ) (ds ps : List ℕ) (a b c : ℕ) (v : Verdict) (asked : answerOf v ≡ postedTests N ds ps) where
+  abbrev rest : Answer
+  rest = degreeTests N ps orElse test 15 (buffersOut (length ps) a b c)
 
-  in-order : (postedNumber N ds ps orElse rest) ≡ directNumber N ds ps a b c
-  in-order = sym (orElse-assoc (postedNumber N ds ps) (test 25 (unresolved N ps)) (test 15 (buffersOut (length ps) a b c)))
+  in-order : (postedTests N ds ps orElse rest) ≡ directTests N ds ps a b c
+  in-order = sym (orElse-assoc (postedTests N ds ps) (degreeTests N ps) (test 15 (buffersOut (length ps) a b c)))
 
-  pub first : (k : Reason) → v ≡ Refused k → refusalOf k ≡ directNumber N ds ps a b c
-  first k q = refused-row k v (postedNumber N ds ps) rest q asked ∙ in-order
+  pub first : (k : Refusal) → v ≡ Refused k → refusalOf k ≡ directTests N ds ps a b c
+  first k q = refused-row k v (postedTests N ds ps) rest q asked ∙ in-order
 
   pub posted : v ≡ Accepted → Posted N ds ps
-  posted q = →posted N ds ps (sym asked ∙ ap numberOf q)
+  posted q = →posted N ds ps (sym asked ∙ ap answerOf q)
 
-  pub then : v ≡ Accepted → (w x y : Verdict) → numberOf w ≡ test 25 (unresolved N ps) → numberOf x ≡ test 15 (buffersOut (length ps) a b c)
-      → numberOf y ≡ (numberOf w orElse numberOf x) → numberOf y ≡ directNumber N ds ps a b c
-  then q w x y e f g = g ∙ ap₂ _orElse_ e f ∙ accepted-row v (postedNumber N ds ps) rest q asked ∙ in-order
+  pub then : v ≡ Accepted → (w x y : Verdict) → answerOf w ≡ degreeTests N ps → answerOf x ≡ test 15 (buffersOut (length ps) a b c)
+      → answerOf y ≡ (answerOf w orElse answerOf x) → answerOf y ≡ directTests N ds ps a b c
+  then q w x y e f g = g ∙ ap₂ _orElse_ e f ∙ accepted-row v (postedTests N ds ps) rest q asked ∙ in-order
 
 -- ---- what passes all tests
 pub record Passed (N : ℕ) (ds ps : List ℕ) (a b c : ℕ) : Type 0 where
   pub posted : Posted N ds ps
-  pub resolved : unresolved N ps ≡ false
+  pub resolved : degreeTests N ps ≡ pass
   pub first : a ≡ length ps
   pub second : b ≡ length ps
   pub third : c ≡ length ps
 
-pub passed : (N : ℕ) (ds ps : List ℕ) (a b c : ℕ) → directNumber N ds ps a b c ≡ 0 → Passed N ds ps a b c
+pub passed : (N : ℕ) (ds ps : List ℕ) (a b c : ℕ) → directTests N ds ps a b c ≡ pass → Passed N ds ps a b c
 passed N ds ps a b c z = record {
   posted = →posted N ds ps (before .0);
-  resolved = test-zero 24 (unresolved N ps) (before .1);
+  resolved = before .1;
   first = same-size a (length ps) (sizes .0);
   second = same-size b (length ps) (others .0);
   third = same-size c (length ps) (others .1);
 }
   where
-    all : (resolvedNumber N ds ps ≡ 0) × (test 15 (buffersOut (length ps) a b c) ≡ 0)
-    all = orElse-zero (resolvedNumber N ds ps) (test 15 (buffersOut (length ps) a b c)) z
+    all : (resolvedTests N ds ps ≡ pass) × (test 15 (buffersOut (length ps) a b c) ≡ pass)
+    all = orElse-pass (resolvedTests N ds ps) (test 15 (buffersOut (length ps) a b c)) z
 
-    before : (postedNumber N ds ps ≡ 0) × (test 25 (unresolved N ps) ≡ 0)
-    before = orElse-zero (postedNumber N ds ps) (test 25 (unresolved N ps)) (all .0)
+    before : (postedTests N ds ps ≡ pass) × (degreeTests N ps ≡ pass)
+    before = orElse-pass (postedTests N ds ps) (degreeTests N ps) (all .0)
 
     sizes : (bufferOut a (length ps) ≡ false) × ((bufferOut b (length ps) || bufferOut c (length ps)) ≡ false)
-    sizes = or-none (bufferOut a (length ps)) (bufferOut b (length ps) || bufferOut c (length ps)) (test-zero 14 (buffersOut (length ps) a b c) (all .1))
+    sizes = or-none (bufferOut a (length ps)) (bufferOut b (length ps) || bufferOut c (length ps)) (test-pass 15 (buffersOut (length ps) a b c) (all .1))
 
     others : (bufferOut b (length ps) ≡ false) × (bufferOut c (length ps) ≡ false)
     others = or-none (bufferOut b (length ps)) (bufferOut c (length ps)) (sizes .1)
 
 -- ---- the answer, where v is that of the tests
 module _ (N : ℕ) (ds ps : List ℕ) (nb : List ℤ) (eb : List ℕ) (mb : List ℤ) (v : Verdict)
-    (asked : numberOf v ≡ directNumber N ds ps (length nb) (length eb) (length mb)) where
-  pub refused : (k : Reason) → v ≡ Refused k → DirectAnswer N ds ps nb nb eb eb mb mb (record { verdict = Refused k; r = pos 0; h = pos 0 })
-  refused k q = record { number = w; fit = λ z. absurd (not-zero k (w ∙ z)); silent = λ _. (refl, refl); kept = λ _. (refl, refl, refl) }
+    (asked : answerOf v ≡ directTests N ds ps (length nb) (length eb) (length mb)) where
+  pub refused : (k : Refusal) → v ≡ Refused k → DirectAnswer N ds ps nb nb eb eb mb mb (record { verdict = Refused k; r = pos 0; h = pos 0 })
+  refused k q = record { answer = w; fit = λ z. absurd (not-pass k (w ∙ z)); silent = λ _. (refl, refl); kept = λ _. (refl, refl, refl) }
     where
-      w : refusalOf k ≡ directNumber N ds ps (length nb) (length eb) (length mb)
-      w = sym (ap numberOf q) ∙ asked
+      w : refusalOf k ≡ directTests N ds ps (length nb) (length eb) (length mb)
+      w = sym (ap answerOf q) ∙ asked
 
   pub accepted : v ≡ Accepted → Passed N ds ps (length nb) (length eb) (length mb)
-  accepted q = passed N ds ps (length nb) (length eb) (length mb) (sym asked ∙ ap numberOf q)
+  accepted q = passed N ds ps (length nb) (length eb) (length mb) (sym asked ∙ ap answerOf q)
 
   pub fitted : v ≡ Accepted → (na : List ℤ) (ea : List ℕ) (ma : List ℤ) (x : DirectFit) → x .verdict ≡ Accepted → Resolves N ds ps na ea ma x → DirectAnswer N ds ps nb na eb ea mb ma x
-  fitted q na ea ma x e w = record { number = ap numberOf e ∙ sym zero; fit = λ _. w; silent = λ z. absurd (z zero); kept = λ z. absurd (z zero) }
+  fitted q na ea ma x e w = record { answer = ap answerOf e ∙ sym zero; fit = λ _. w; silent = λ z. absurd (z zero); kept = λ z. absurd (z zero) }
     where
-      zero : directNumber N ds ps (length nb) (length eb) (length mb) ≡ 0
-      zero = sym asked ∙ ap numberOf q
+      zero : directTests N ds ps (length nb) (length eb) (length mb) ≡ pass
+      zero = sym asked ∙ ap answerOf q

@@ -3,13 +3,13 @@
 use mathlib.Core.Path.{_≡_, sym, _∙_, ap, ap₂}
 use mathlib.Core.List.{List}
 use Prim.Native.Nat.{ℕ}
-use native.Mathlib.Decide.{ℕ-discrete}
 use lib.IntN.{ℤ}
 use lib.ListN.{length}
+use Rattle.verdict.specs.Answer.{pass}
 use Rattle.exact.proofs.Decide.{by-cases}
 use Rattle.verdict.specs.declared.Verdict.{Verdict}
-use Rattle.verdict.proofs.Answers.{same-answer}
-use Rattle.resolution.specs.Tests.{directNumber}
+use Rattle.verdict.proofs.Answers.{passes, same-answer}
+use Rattle.resolution.specs.Tests.{directTests}
 use Rattle.resolving.specs.declared.DirectFit.{DirectFit}
 use Rattle.resolving.specs.Answers.{DirectAnswer, LengthsAnswer}
 
@@ -20,13 +20,13 @@ same-fit x y e r h = ap₂ (λ (v : Verdict) (a : ℤ). whole v a (x .h)) e r �
     whole v a b = record { verdict = v; r = a; h = b }
 
 module _ (N : ℕ) (ds ps : List ℕ) (nb na na′ : List ℤ) (eb ea ea′ : List ℕ) (mb ma ma′ : List ℤ) where
-  here : Dec (directNumber N ds ps (length nb) (length eb) (length mb) ≡ 0)
-  here = ℕ-discrete (directNumber N ds ps (length nb) (length eb) (length mb)) 0
+  here : Dec (directTests N ds ps (length nb) (length eb) (length mb) ≡ pass)
+  here = passes (directTests N ds ps (length nb) (length eb) (length mb))
 
   pub one-direct : (x y : DirectFit) → DirectAnswer N ds ps nb na eb ea mb ma x → DirectAnswer N ds ps nb na′ eb ea′ mb ma′ y
       → (x ≡ y) × (na ≡ na′) × (ea ≡ ea′) × (ma ≡ ma′)
   one-direct x y p q = (
-    same-fit x y (same-answer (x .verdict) (y .verdict) (p .number ∙ sym (q .number)))
+    same-fit x y (same-answer (x .verdict) (y .verdict) (p .answer ∙ sym (q .answer)))
         (by-cases here (λ z. p .fit z .r ∙ sym (q .fit z .r)) (λ z. p .silent z .0 ∙ sym (q .silent z .0)))
         (by-cases here (λ z. p .fit z .h ∙ sym (q .fit z .h)) (λ z. p .silent z .1 ∙ sym (q .silent z .1))),
     by-cases here (λ z. p .fit z .tops ∙ sym (q .fit z .tops)) (λ z. p .kept z .0 ∙ sym (q .kept z .0)),

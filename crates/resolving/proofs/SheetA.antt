@@ -1,5 +1,5 @@
 -- The fit of sheet A's matrix and tree, computed from the definitions: 3/2 3/2 3/2 7/2 7/2, m 1500 1500 1500 3500 3500,
--- R = 1000000, H = 44, as the bench has them; and a star of four strains gets 25.
+-- R = 1000000, H = 44, as the bench has them; and a star of four strains gets 25, at its root.
 use mathlib.Core.Path.{_≡_, refl}
 use mathlib.Core.Bool.{Bool, true, _&&_}
 use mathlib.Core.List.{List, [], _∷_}
@@ -10,7 +10,9 @@ use Rattle.exact.specs.Sum.{sum, pairs, ind}
 use Rattle.exact.specs.Table.{table, tableFrom}
 use Rattle.exact.specs.LeastSquares.{path, hops}
 use Rattle.exact.specs.Nearest.{nearest}
-use Rattle.verdict.specs.Table.{some, count}
+use Rattle.verdict.specs.Answer.{number, fault}
+use Rattle.verdict.specs.declared.Place.the-variants.{Vertex}
+use Rattle.verdict.specs.Table.{some, first, count}
 use Rattle.matrix.specs.Place.{rowStart, place}
 use Rattle.trees.specs.Chain.{lift, below, parts}
 use Rattle.fit.specs.Figures.{distancesA, parentsA, starOf, same, sameList}
@@ -18,7 +20,7 @@ use Rattle.fit.specs.Quantities.{hOf}
 use Rattle.exact.specs.Fraction.{divisorIn}
 use Rattle.resolution.specs.Children.{childTo}
 use Rattle.resolution.specs.Averages.{size, between}
-use Rattle.resolution.specs.Tests.{resolvedNumber}
+use Rattle.resolution.specs.Tests.{resolvedTests}
 use Rattle.resolution.specs.Lengths.{topOf, bottomOf, thousandthOf, squareOf}
 
 abbrev fits : Bool
@@ -28,9 +30,12 @@ fits =
     && sameList (table 5 (thousandthOf 4 distancesA parentsA)) (pos 1500 ∷ pos 1500 ∷ pos 1500 ∷ pos 3500 ∷ pos 3500 ∷ [])
     && same (squareOf 4 distancesA parentsA) (pos 1000000)
     && same (hOf 4 parentsA) (pos 44)
-    && eqb (resolvedNumber 4 distancesA parentsA) 0
-    && eqb (resolvedNumber 4 distancesA (starOf 4)) 25
+    && eqb (number (resolvedTests 4 distancesA parentsA)) 0
 
 pub sheet-a : fits ≡ true
-unfolding sum pairs ind tableFrom path hops nearest some count rowStart place lift below parts divisorIn childTo size between
+unfolding sum pairs ind tableFrom path hops nearest some first count rowStart place lift below parts divisorIn childTo size between
 sheet-a = refl
+
+pub star : resolvedTests 4 distancesA (starOf 4) ≡ fault 25 (Vertex 4)
+unfolding sum pairs ind tableFrom path hops nearest some first count rowStart place lift below parts divisorIn childTo size between
+star = refl

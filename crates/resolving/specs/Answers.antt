@@ -5,10 +5,10 @@ use Prim.Native.Nat.{ℕ}
 use lib.IntN.{ℤ, pos}
 use lib.ListN.{length}
 use Rattle.exact.specs.Table.{table}
-use Rattle.verdict.specs.Number.{numberOf}
+use Rattle.verdict.specs.Answer.{pass, number, answerOf}
 use Rattle.fit.specs.Quantities.{hOf}
 use Rattle.resolution.specs.Lengths.{topOf, bottomOf, thousandthOf, squareOf, Direct}
-use Rattle.resolution.specs.Tests.{directNumber}
+use Rattle.resolution.specs.Tests.{directTests}
 use Rattle.resolving.specs.declared.DirectFit.{DirectFit}
 
 -- a resolved tree: its lengths in the three buffers, their R and H
@@ -22,15 +22,15 @@ pub record Resolves (N : ℕ) (ds ps : List ℕ) (ns : List ℤ) (es : List ℕ)
 
 -- the whole answer; a refusal reports nothing and leaves the three buffers as they were
 pub record DirectAnswer (N : ℕ) (ds ps : List ℕ) (nb na : List ℤ) (eb ea : List ℕ) (mb ma : List ℤ) (x : DirectFit) : Type 0 where
-  pub number : numberOf (x .verdict) ≡ directNumber N ds ps (length nb) (length eb) (length mb)
-  pub fit : directNumber N ds ps (length nb) (length eb) (length mb) ≡ 0 → Resolves N ds ps na ea ma x
-  pub silent : (directNumber N ds ps (length nb) (length eb) (length mb) ≡ 0 → ⊥) → (x .r ≡ pos 0) × (x .h ≡ pos 0)
-  pub kept : (directNumber N ds ps (length nb) (length eb) (length mb) ≡ 0 → ⊥) → (na ≡ nb) × (ea ≡ eb) × (ma ≡ mb)
+  pub answer : answerOf (x .verdict) ≡ directTests N ds ps (length nb) (length eb) (length mb)
+  pub fit : directTests N ds ps (length nb) (length eb) (length mb) ≡ pass → Resolves N ds ps na ea ma x
+  pub silent : (directTests N ds ps (length nb) (length eb) (length mb) ≡ pass → ⊥) → (x .r ≡ pos 0) × (x .h ≡ pos 0)
+  pub kept : (directTests N ds ps (length nb) (length eb) (length mb) ≡ pass → ⊥) → (na ≡ nb) × (ea ≡ eb) × (ma ≡ mb)
 
 -- the same without R and H: the number, and the three buffers
 pub record LengthsAnswer (N : ℕ) (ds ps : List ℕ) (nb na : List ℤ) (eb ea : List ℕ) (mb ma : List ℤ) (r : ℕ) : Type 0 where
-  pub number : r ≡ directNumber N ds ps (length nb) (length eb) (length mb)
-  pub tops : directNumber N ds ps (length nb) (length eb) (length mb) ≡ 0 → na ≡ table (length ps) (topOf N ds ps)
-  pub bottoms : directNumber N ds ps (length nb) (length eb) (length mb) ≡ 0 → ea ≡ table (length ps) (bottomOf N ds ps)
-  pub rounded : directNumber N ds ps (length nb) (length eb) (length mb) ≡ 0 → ma ≡ table (length ps) (thousandthOf N ds ps)
-  pub kept : (directNumber N ds ps (length nb) (length eb) (length mb) ≡ 0 → ⊥) → (na ≡ nb) × (ea ≡ eb) × (ma ≡ mb)
+  pub number : r ≡ number (directTests N ds ps (length nb) (length eb) (length mb))
+  pub tops : directTests N ds ps (length nb) (length eb) (length mb) ≡ pass → na ≡ table (length ps) (topOf N ds ps)
+  pub bottoms : directTests N ds ps (length nb) (length eb) (length mb) ≡ pass → ea ≡ table (length ps) (bottomOf N ds ps)
+  pub rounded : directTests N ds ps (length nb) (length eb) (length mb) ≡ pass → ma ≡ table (length ps) (thousandthOf N ds ps)
+  pub kept : (directTests N ds ps (length nb) (length eb) (length mb) ≡ pass → ⊥) → (na ≡ nb) × (ea ≡ eb) × (ma ≡ mb)

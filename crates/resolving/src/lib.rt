@@ -1,15 +1,16 @@
 // Resolved trees fitted with no proposal: where every inner vertex has degree three, each length comes
 // from averages of distances between subtrees, as a fraction in lowest terms with a denominator of its own.
+use verdict::Place;
 use verdict::Reason;
+use verdict::Refusal;
 use verdict::Verdict;
 ghost use mathlib.Core.Path.{_≡_};
-ghost use mathlib.Core.Bool.{false};
 ghost use lib.ListN.{length};
-ghost use Rattle.verdict.specs.Number.{numberOf, test};
+ghost use Rattle.verdict.specs.Answer.{answerOf, pass, test};
 ghost use Rattle.trees.specs.Chain.{parentOf};
 ghost use Rattle.trees.specs.Allowed.{Allowed};
 ghost use Rattle.fit.specs.Stands.{Posted};
-ghost use Rattle.resolution.specs.Tests.{unresolved, buffersOut, directNumber};
+ghost use Rattle.resolution.specs.Tests.{degreeTests, buffersOut, directTests};
 ghost use Rattle.resolving.specs.Answers.{Resolves, DirectAnswer, LengthsAnswer};
 
 // R and H of a resolved tree's fit; of a refusal the verdict, and zeros.
@@ -30,7 +31,7 @@ pub fn resolve(
     rounded: &mut [i64],
 ) -> DirectFit
     requires { ⌜ Posted n (now distances) (now parents) ⌝ }
-    requires { ⌜ unresolved n (now parents) ≡ false ⌝ }
+    requires { ⌜ degreeTests n (now parents) ≡ pass ⌝ }
     requires { ⌜ (length (now numerators) ≡ length (now parents)) × (length (now denominators) ≡ length (now parents)) × (length (now rounded) ≡ length (now parents)) ⌝ }
     ensures { λ r. ⌜ r .verdict ≡ Verdict.Accepted ⌝ }
     ensures { λ r. ⌜ Resolves n (now (distances .entry)) (now (parents .entry)) (now (numerators .exit)) (now (denominators .exit)) (now (rounded .exit)) r ⌝ }
@@ -58,29 +59,42 @@ pub fn resolve(
     }
 }
 
-// 25: some inner vertex is not of degree three.
+// 25: the first inner vertex that is not of degree three.
 pub fn check_resolved(n: u32, parents: &[u8]) -> Verdict
     requires { ⌜ Allowed n (length (now parents)) (parentOf (now parents)) ⌝ }
-    ensures { λ r. ⌜ numberOf r ≡ test 25 (unresolved n (now (parents .entry))) ⌝ }
+    ensures { λ r. ⌜ answerOf r ≡ degreeTests n (now (parents .entry)) ⌝ }
 {
-    if tree::some_children_out(n as usize, parents, 0) {
-        return Verdict::Refused(Reason::Unresolved);
+    let w = tree::first_children_out(n as usize, parents, 0);
+    if w <= parents.len() {
+        return Verdict::Refused(Refusal {
+            reason: Reason::Unresolved,
+            place: Place::Vertex(w),
+        });
     }
     Verdict::Accepted
 }
 
 // 15: some of three buffers of a, b and c entries does not have one for each edge.
 fn check_buffers(edges: usize, a: usize, b: usize, c: usize) -> Verdict
-    ensures { λ r. ⌜ numberOf r ≡ test 15 (buffersOut edges a b c) ⌝ }
+    ensures { λ r. ⌜ answerOf r ≡ test 15 (buffersOut edges a b c) ⌝ }
 {
     if a != edges {
-        return Verdict::Refused(Reason::Buffer);
+        return Verdict::Refused(Refusal {
+            reason: Reason::Buffer,
+            place: Place::Nowhere,
+        });
     }
     if b != edges {
-        return Verdict::Refused(Reason::Buffer);
+        return Verdict::Refused(Refusal {
+            reason: Reason::Buffer,
+            place: Place::Nowhere,
+        });
     }
     if c != edges {
-        return Verdict::Refused(Reason::Buffer);
+        return Verdict::Refused(Refusal {
+            reason: Reason::Buffer,
+            place: Place::Nowhere,
+        });
     }
     Verdict::Accepted
 }
@@ -88,11 +102,11 @@ fn check_buffers(edges: usize, a: usize, b: usize, c: usize) -> Verdict
 // What a matrix and a tree are asked before the fit, with buffers of a, b and c entries: 4, 6 to 10, 25, 15, the first that
 // applies.
 fn check_direct(n: u32, distances: &[u16], parents: &[u8], a: usize, b: usize, c: usize) -> Verdict
-    ensures { λ r. ⌜ numberOf r ≡ directNumber n (now (distances .entry)) (now (parents .entry)) a b c ⌝ }
+    ensures { λ r. ⌜ answerOf r ≡ directTests n (now (distances .entry)) (now (parents .entry)) a b c ⌝ }
 {
     let posted = posting::check_posting(n, distances, parents);
-    if let Verdict::Refused(reason) = posted {
-        return Verdict::Refused(reason);
+    if let Verdict::Refused(refusal) = posted {
+        return Verdict::Refused(refusal);
     }
     let resolved = check_resolved(n, parents);
     let lent = check_buffers(parents.len(), a, b, c);
@@ -119,9 +133,9 @@ pub fn fit_resolved(
         denominators.len(),
         rounded.len(),
     );
-    if let Verdict::Refused(reason) = found {
+    if let Verdict::Refused(refusal) = found {
         return DirectFit {
-            verdict: Verdict::Refused(reason),
+            verdict: Verdict::Refused(refusal),
             r: 0,
             h: 0,
         };

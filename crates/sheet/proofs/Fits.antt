@@ -2,7 +2,7 @@
 -- lengths (`asked`); a fit has its numbers and its two tables (`fitted-sheet`).
 use mathlib.Core.Path.{_≡_, refl, sym, _∙_, ap, ap₂, subst}
 use mathlib.Core.List.{List, _++_}
-use Prim.Native.Nat.{ℕ, zero, suc, _+_, _-_, _≤_, _<_}
+use Prim.Native.Nat.{ℕ, _+_, _-_, _≤_, _<_}
 use native.Mathlib.Omega.{arith}
 use borrow.Author.Tests.{eq-eqb}
 use lib.IntN.{ℤ, pos}
@@ -10,19 +10,19 @@ use lib.ListN.{length, take, drop, length-drop}
 use lib.Seq.{length-take-le, getD-drop}
 use Rattle.exact.specs.Table.{table, entryOf}
 use Rattle.exact.proofs.Fill.{length-table, getD-table, getD-table-const}
-use Rattle.verdict.specs.Number.{numberOf, refusalOf, test, _orElse_}
-use Rattle.verdict.specs.declared.Reason.{Reason}
+use Rattle.verdict.specs.Answer.{Answer, pass, fault, answerOf, refusalOf, test, _orElse_}
+use Rattle.verdict.specs.declared.Refusal.{Refusal}
 use Rattle.verdict.specs.declared.Verdict.the-variants.{Accepted, Refused}
-use Rattle.verdict.proofs.Answers.{not-zero}
+use Rattle.verdict.proofs.Answers.{not-pass}
 use Rattle.trees.specs.Limits.{maxEdges}
 use Rattle.trees.specs.EdgeTable.{EdgeTable}
 use Rattle.trees.proofs.EdgeTables.{front-kept, padded-kept}
 use Rattle.fit.specs.Quantities.{roundedOf}
-use Rattle.fit.specs.Tests.{bufferOut, proposalNumber}
+use Rattle.fit.specs.Tests.{bufferOut, proposalTests}
 use Rattle.reading.specs.declared.Sheet.{Sheet}
 use Rattle.reading.specs.Holds.{strainsOf, distancesOf, parentsOf, denominatorOf, edgesOf, numeratorAt, numeratorsOf}
 use Rattle.reading.specs.Reads.{Held, SheetAnswer}
-use Rattle.reading.specs.Tests.{readNumber, sheetNumber}
+use Rattle.reading.specs.Tests.{readTests, sheetTests}
 use Rattle.reading.proofs.Parts.{Parts, Lengths, accepted, read-parts, read-lengths, of-lengths}
 use Rattle.reading.proofs.Whole.{sheet-asked}
 use Rattle.reporting.specs.declared.FitReport.{FitReport}
@@ -30,12 +30,12 @@ use Rattle.reporting.specs.Answers.{Reported, ProposalReport}
 use Rattle.sheet.specs.declared.SheetFit.{SheetFit}
 use Rattle.sheet.specs.Reports.{Fitted, Unfitted, SheetReport}
 
-pub refused-sheet : (s : List ℕ) (r : SheetFit) (q : Reason) → r .report .verdict ≡ Refused q → Unfitted r → refusalOf q ≡ sheetNumber s → SheetReport s r
-refused-sheet s r q e u g = record { number = ap numberOf e ∙ g; fitted = λ z. absurd (not-zero q (g ∙ z)); unfitted = λ _. u }
+pub refused-sheet : (s : List ℕ) (r : SheetFit) (q : Refusal) → r .report .verdict ≡ Refused q → Unfitted r → refusalOf q ≡ sheetTests s → SheetReport s r
+refused-sheet s r q e u g = record { answer = ap answerOf e ∙ g; fitted = λ z. absurd (not-pass q (g ∙ z)); unfitted = λ _. u }
 
-last-none : (a : ℕ) → (a orElse 0) ≡ a
-last-none zero = refl
-last-none (suc a) = refl
+last-none : (a : Answer) → (a orElse pass) ≡ a
+last-none pass = refl
+last-none (fault k p) = refl
 
 module _ (s : List ℕ) (r : Sheet) (a : SheetAnswer 3 s r) (e : r .verdict ≡ Accepted) (zeros : List ℤ) (blank : zeros ≡ table maxEdges (λ _. pos 0)) where
   parts : Parts s r
@@ -60,18 +60,18 @@ module _ (s : List ℕ) (r : Sheet) (a : SheetAnswer 3 s r) (e : r .verdict ≡ 
     whole = of-lengths parts lengths (λ n ds ps d ns. ProposalReport n ds ps d ns (take (r .edges) zeros) after x) p
 
     -- the buffer is of the exact length
-    right : test 15 (bufferOut (length (take (r .edges) zeros)) (length (parentsOf s))) ≡ 0
+    right : test 15 (bufferOut (length (take (r .edges) zeros)) (length (parentsOf s))) ≡ pass
     right = rw (eq-eqb (length (take (r .edges) zeros)) (length (parentsOf s)) (sym front-size ∙ lengths .count))
 
-    pub asked : numberOf (x .verdict) ≡ sheetNumber s
-    asked = whole .number
-        ∙ ap (λ (k : ℕ). proposalNumber (strainsOf s) (distancesOf s) (parentsOf s) (denominatorOf s) (numeratorsOf s) orElse k) right
-        ∙ last-none (proposalNumber (strainsOf s) (distancesOf s) (parentsOf s) (denominatorOf s) (numeratorsOf s))
+    pub asked : answerOf (x .verdict) ≡ sheetTests s
+    asked = whole .answer
+        ∙ ap (λ (k : Answer). proposalTests (strainsOf s) (distancesOf s) (parentsOf s) (denominatorOf s) (numeratorsOf s) orElse k) right
+        ∙ last-none (proposalTests (strainsOf s) (distancesOf s) (parentsOf s) (denominatorOf s) (numeratorsOf s))
         ∙ sym (sheet-asked s (accepted 3 s r a e))
 
     module _ (f : x .verdict ≡ Accepted) where
       reported : Reported (strainsOf s) (distancesOf s) (parentsOf s) (denominatorOf s) (numeratorsOf s) after x
-      reported = whole .reported (sym (whole .number) ∙ ap numberOf f)
+      reported = whole .reported (sym (whole .answer) ∙ ap answerOf f)
 
       few : length (parentsOf s) ≤ maxEdges
       few = omega (arith, lengths .count, lengths .few)
@@ -95,8 +95,8 @@ module _ (s : List ℕ) (r : Sheet) (a : SheetAnswer 3 s r) (e : r .verdict ≡ 
       }
 
       pub fitted-sheet : SheetReport s (record { report = x; numerators = r .numerators; rounded = after ++ drop (r .edges) zeros })
-      fitted-sheet = let zero : 0 ≡ sheetNumber s = sym (ap numberOf f) ∙ asked in record {
-        number = asked;
+      fitted-sheet = let zero : pass ≡ sheetTests s = sym (ap answerOf f) ∙ asked in record {
+        answer = asked;
         fitted = λ _. record {
           reported = subst (λ (l : List ℤ). Reported (strainsOf s) (distancesOf s) (parentsOf s) (denominatorOf s) (numeratorsOf s) l x) (reported .rounded) reported;
           numerators = numerators;

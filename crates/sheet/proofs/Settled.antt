@@ -2,16 +2,17 @@
 -- (`one-sheet-report`).
 use mathlib.Core.Path.{_≡_, refl, sym, _∙_, ap, ap₂}
 use mathlib.Core.List.{List}
-use native.Mathlib.Decide.{ℕ-discrete}
 use Prim.Native.Nat.{ℕ}
 use lib.IntN.{ℤ}
 use lib.ListN.{length}
+use Rattle.verdict.proofs.Answers.{passes}
+use Rattle.verdict.specs.Answer.{pass}
 use Rattle.exact.specs.Table.{table}
 use Rattle.exact.proofs.Decide.{by-cases}
 use Rattle.trees.proofs.EdgeTables.{one-table}
 use Rattle.fit.specs.Quantities.{roundedOf}
 use Rattle.reading.specs.Holds.{strainsOf, distancesOf, parentsOf, denominatorOf, numeratorsOf}
-use Rattle.reading.specs.Tests.{sheetNumber}
+use Rattle.reading.specs.Tests.{sheetTests}
 use Rattle.reporting.specs.declared.FitReport.{FitReport}
 use Rattle.reporting.specs.Answers.{Report}
 use Rattle.reporting.proofs.OneReport.{one-report}
@@ -29,14 +30,14 @@ module _ (s : List ℕ) where
   abbrev lengths : List ℤ
   lengths = table (length (parentsOf s)) (roundedOf (denominatorOf s) (numeratorsOf s))
 
-  report : (x : SheetFit) → SheetReport s x → Report (sheetNumber s) (strainsOf s) (distancesOf s) (parentsOf s) (denominatorOf s) (numeratorsOf s) lengths lengths (x .report)
-  report x a = record { number = a .number; reported = λ z. a .fitted z .reported; silent = λ n. a .unfitted n .silent; kept = λ _. refl }
+  report : (x : SheetFit) → SheetReport s x → Report (sheetTests s) (strainsOf s) (distancesOf s) (parentsOf s) (denominatorOf s) (numeratorsOf s) lengths lengths (x .report)
+  report x a = record { answer = a .answer; reported = λ z. a .fitted z .reported; silent = λ n. a .unfitted n .silent; kept = λ _. refl }
 
   pub one-sheet-report : (x y : SheetFit) → SheetReport s x → SheetReport s y → x ≡ y
   one-sheet-report x y p q = same-sheet x y
-      (one-report (sheetNumber s) (strainsOf s) (distancesOf s) (parentsOf s) (denominatorOf s) (numeratorsOf s) lengths lengths lengths (x .report) (y .report) (report x p) (report y q) .0)
+      (one-report (sheetTests s) (strainsOf s) (distancesOf s) (parentsOf s) (denominatorOf s) (numeratorsOf s) lengths lengths lengths (x .report) (y .report) (report x p) (report y q) .0)
       (by-cases here (λ z. one-table (p .fitted z .numerators) (q .fitted z .numerators)) (λ n. p .unfitted n .numerators ∙ sym (q .unfitted n .numerators)))
       (by-cases here (λ z. one-table (p .fitted z .rounded) (q .fitted z .rounded)) (λ n. p .unfitted n .rounded ∙ sym (q .unfitted n .rounded)))
     where
-      here : Dec (sheetNumber s ≡ 0)
-      here = ℕ-discrete (sheetNumber s) 0
+      here : Dec (sheetTests s ≡ pass)
+      here = passes (sheetTests s)

@@ -5,12 +5,12 @@ use Prim.Native.Nat.{ℕ}
 use lib.IntN.{ℤ, pos}
 use lib.ListN.{length}
 use Rattle.exact.specs.Table.{table, entryOf}
-use Rattle.verdict.specs.Number.{numberOf}
+use Rattle.verdict.specs.Answer.{pass, answerOf}
 use Rattle.trees.specs.Limits.{maxEdges}
 use Rattle.trees.specs.EdgeTable.{EdgeTable}
 use Rattle.fit.specs.Quantities.{roundedOf}
 use Rattle.reading.specs.Holds.{strainsOf, distancesOf, parentsOf, denominatorOf, numeratorsOf}
-use Rattle.reading.specs.Tests.{sheetNumber}
+use Rattle.reading.specs.Tests.{sheetTests}
 use Rattle.reporting.specs.Answers.{Reported, Silent}
 use Rattle.sheet.specs.declared.SheetFit.{SheetFit}
 
@@ -28,6 +28,6 @@ pub record Unfitted (r : SheetFit) : Type 0 where
 
 -- the whole answer
 pub record SheetReport (s : List ℕ) (r : SheetFit) : Type 0 where
-  pub number : numberOf (r .report .verdict) ≡ sheetNumber s
-  pub fitted : sheetNumber s ≡ 0 → Fitted s r
-  pub unfitted : (sheetNumber s ≡ 0 → ⊥) → Unfitted r
+  pub answer : answerOf (r .report .verdict) ≡ sheetTests s
+  pub fitted : sheetTests s ≡ pass → Fitted s r
+  pub unfitted : (sheetTests s ≡ pass → ⊥) → Unfitted r

@@ -2,11 +2,11 @@
 // report. Any bytes whatever get an answer.
 use reporting::FitReport;
 use tree::Tree;
-use verdict::Reason;
+use verdict::Refusal;
 use verdict::Verdict;
 ghost use mathlib.Core.Path.{_≡_};
-ghost use Rattle.verdict.specs.Number.{numberOf};
-ghost use Rattle.reading.specs.Tests.{sheetNumber};
+ghost use Rattle.verdict.specs.Answer.{answerOf, number};
+ghost use Rattle.reading.specs.Tests.{sheetTests};
 ghost use Rattle.sheet.specs.Reports.{Unfitted, SheetReport};
 
 // The report on a sheet, with its numerators and its rounded lengths, each followed by zeros; of a refusal the verdict,
@@ -19,12 +19,12 @@ pub struct SheetFit {
 
 // The answer to a sheet: 1 to 14, the first that applies.
 pub fn sheet_judge(s: &[u8]) -> Verdict
-    ensures { λ r. ⌜ numberOf r ≡ sheetNumber (now (s .entry)) ⌝ }
+    ensures { λ r. ⌜ answerOf r ≡ sheetTests (now (s .entry)) ⌝ }
 {
     let sheet = reading::read(s, 3);
     let of_reader = sheet.verdict;
-    if let Verdict::Refused(reason) = of_reader {
-        return Verdict::Refused(reason);
+    if let Verdict::Refused(refusal) = of_reader {
+        return Verdict::Refused(refusal);
     }
     let pairs = sheet.pairs;
     let parents = sheet.parents;
@@ -42,11 +42,11 @@ pub fn sheet_judge(s: &[u8]) -> Verdict
 }
 
 // What a refused sheet gets.
-fn unfitted(reason: Reason) -> SheetFit
-    ensures { λ r. ⌜ (r .report .verdict ≡ Verdict.Refused reason) × Unfitted r ⌝ }
+fn unfitted(refusal: Refusal) -> SheetFit
+    ensures { λ r. ⌜ (r .report .verdict ≡ Verdict.Refused refusal) × Unfitted r ⌝ }
 {
     SheetFit {
-        report: reporting::silent(reason),
+        report: reporting::silent(refusal),
         numerators: lengths::no_lengths(),
         rounded: lengths::no_lengths(),
     }
@@ -58,8 +58,8 @@ pub fn sheet_report(s: &[u8]) -> SheetFit
 {
     let sheet = reading::read(s, 3);
     let of_reader = sheet.verdict;
-    if let Verdict::Refused(reason) = of_reader {
-        return unfitted(reason);
+    if let Verdict::Refused(refusal) = of_reader {
+        return unfitted(refusal);
     }
     let pairs = sheet.pairs;
     let parents = sheet.parents;
@@ -78,7 +78,7 @@ pub fn sheet_report(s: &[u8]) -> SheetFit
     );
     let found = report.verdict;
     match found {
-        Verdict::Refused(reason) => unfitted(reason),
+        Verdict::Refused(refusal) => unfitted(refusal),
         Verdict::Accepted => SheetFit {
             report,
             numerators,
@@ -90,7 +90,7 @@ pub fn sheet_report(s: &[u8]) -> SheetFit
 // The number that a sheet gets, for a program in C: 0 where it is accepted.
 #[no_mangle]
 pub extern "C" fn sheet_verdict(s: &[u8]) -> u32
-    ensures { λ r. ⌜ r ≡ sheetNumber (now (s .entry)) ⌝ }
+    ensures { λ r. ⌜ r ≡ number (sheetTests (now (s .entry))) ⌝ }
 {
     verdict::number(sheet_judge(s))
 }

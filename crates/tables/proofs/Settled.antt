@@ -3,7 +3,6 @@
 use mathlib.Core.Path.{_≡_, sym, _∙_, subst}
 use mathlib.Core.List.{List}
 use Prim.Native.Nat.{ℕ, _<_}
-use native.Mathlib.Decide.{ℕ-discrete}
 use native.Mathlib.Omega.{arith}
 use lib.IntN.{ℤ, pos}
 use lib.ListN.{length, getD}
@@ -11,21 +10,21 @@ use lib.Seq.{ext-getD}
 use borrow.Author.Tests.{eqb-true, not-false}
 use lib.Dec.{eqb}
 use Rattle.exact.proofs.Decide.{by-cases}
-use Rattle.verdict.specs.Number.{numberOf, test, _orElse_}
+use Rattle.verdict.specs.Answer.{pass, answerOf, test, _orElse_}
 use Rattle.verdict.specs.declared.Verdict.{Verdict}
-use Rattle.verdict.proofs.Answers.{same-answer, orElse-zero, test-zero}
+use Rattle.verdict.proofs.Answers.{passes, same-answer, orElse-pass, test-pass}
 use Rattle.matrix.specs.Place.{pairCount, place}
 use Rattle.matrix.proofs.Places.{place-onto}
-use Rattle.trees.specs.Tests.{treeNumber}
-use Rattle.lengths.specs.Tests.{lengthsNumber}
-use Rattle.fit.specs.Tests.{splitNumber, pathsNumber, bufferOut}
+use Rattle.trees.specs.Tests.{treeTests}
+use Rattle.lengths.specs.Tests.{lengthsTests}
+use Rattle.fit.specs.Tests.{splitTests, pathsTests, bufferOut}
 use Rattle.tables.specs.Answers.{SplitAnswer, PathsAnswer}
 
 pub one-split : {N : ℕ} {ds ps : List ℕ} {before after after′ : List ℤ} {r r′ : Verdict}
     → SplitAnswer N ds ps before after r → SplitAnswer N ds ps before after′ r′ → (after ≡ after′) × (r ≡ r′)
 one-split {N} {ds} {ps} {before} {r = r} {r′ = r′} a b = (
-  by-cases (ℕ-discrete (splitNumber N ds ps (length before)) 0) (λ z. a .filled z ∙ sym (b .filled z)) (λ z. a .kept z ∙ sym (b .kept z)),
-  same-answer r r′ (a .number ∙ sym (b .number)),
+  by-cases (passes (splitTests N ds ps (length before))) (λ z. a .filled z ∙ sym (b .filled z)) (λ z. a .kept z ∙ sym (b .kept z)),
+  same-answer r r′ (a .answer ∙ sym (b .answer)),
 )
 
 -- two buffers of one entry for each pair that agree at every pair
@@ -36,18 +35,18 @@ same-pairs N l l′ e f h = ext-getD (pos 0) l l′ (sym f) (λ k lt.
     subst (λ (p : ℕ). getD l p (pos 0) ≡ getD l′ p (pos 0)) (at .there) (h (at .i) (at .j) (at .rising) (at .strain)))
 
 -- what passed has a buffer of the right size
-paths-sized : (N : ℕ) (ps : List ℕ) (D : ℕ) (ns : List ℤ) (size : ℕ) → pathsNumber N ps D ns size ≡ 0 → size ≡ pairCount N
+paths-sized : (N : ℕ) (ps : List ℕ) (D : ℕ) (ns : List ℤ) (size : ℕ) → pathsTests N ps D ns size ≡ pass → size ≡ pairCount N
 paths-sized N ps D ns size z =
-    let rest = orElse-zero (treeNumber N ps) (lengthsNumber (length ps) D ns orElse test 15 (bufferOut size (pairCount N))) z .1 in
-    let last = orElse-zero (lengthsNumber (length ps) D ns) (test 15 (bufferOut size (pairCount N))) rest .1 in
-    eqb-true size (pairCount N) (not-false (eqb size (pairCount N)) (test-zero 14 (bufferOut size (pairCount N)) last))
+    let rest = orElse-pass (treeTests N ps) (lengthsTests (length ps) D ns orElse test 15 (bufferOut size (pairCount N))) z .1 in
+    let last = orElse-pass (lengthsTests (length ps) D ns) (test 15 (bufferOut size (pairCount N))) rest .1 in
+    eqb-true size (pairCount N) (not-false (eqb size (pairCount N)) (test-pass 15 (bufferOut size (pairCount N)) last))
 
 pub one-paths : {N : ℕ} {ps : List ℕ} {D : ℕ} {ns before after after′ : List ℤ} {r r′ : Verdict}
     → PathsAnswer N ps D ns before after r → PathsAnswer N ps D ns before after′ r′ → (after ≡ after′) × (r ≡ r′)
 one-paths {N} {ps} {D} {ns} {before} {after} {after′} {r} {r′} a b = (
-  by-cases (ℕ-discrete (pathsNumber N ps D ns (length before)) 0)
+  by-cases (passes (pathsTests N ps D ns (length before)))
       (λ z. same-pairs N after after′ (a .size ∙ paths-sized N ps D ns (length before) z) (b .size ∙ sym (a .size))
       (λ i j h k. a .filled z i j h k ∙ sym (b .filled z i j h k)))
       (λ z. a .kept z ∙ sym (b .kept z)),
-  same-answer r r′ (a .number ∙ sym (b .number)),
+  same-answer r r′ (a .answer ∙ sym (b .answer)),
 )

@@ -5,12 +5,12 @@ use Prim.Native.Nat.{ℕ, _<_}
 use lib.IntN.{ℤ}
 use lib.ListN.{length}
 use Rattle.exact.specs.Table.{table, entryOf}
-use Rattle.verdict.specs.Number.{numberOf}
+use Rattle.verdict.specs.Answer.{pass, answerOf}
 use Rattle.verdict.specs.declared.Verdict.{Verdict}
 use Rattle.matrix.specs.Place.{place}
 use Rattle.trees.specs.EdgeTable.{EdgeTable}
 use Rattle.fit.specs.Quantities.{splitSum, pathOf}
-use Rattle.fit.specs.Tests.{splitNumber, pathsNumber}
+use Rattle.fit.specs.Tests.{splitTests, pathsTests}
 
 -- a table of every edge's split sum, zeros behind the last edge
 abbrev pub SplitTable : ℕ → List ℕ → List ℕ → List ℤ → Type 0
@@ -18,13 +18,13 @@ SplitTable N ds ps r = EdgeTable (length ps) (splitSum N ds ps) r
 
 -- split sums: the buffer holds one for each edge, or is as it was
 pub record SplitAnswer (N : ℕ) (ds ps : List ℕ) (before after : List ℤ) (r : Verdict) : Type 0 where
-  pub number : numberOf r ≡ splitNumber N ds ps (length before)
-  pub filled : splitNumber N ds ps (length before) ≡ 0 → after ≡ table (length ps) (splitSum N ds ps)
-  pub kept : (splitNumber N ds ps (length before) ≡ 0 → ⊥) → after ≡ before
+  pub answer : answerOf r ≡ splitTests N ds ps (length before)
+  pub filled : splitTests N ds ps (length before) ≡ pass → after ≡ table (length ps) (splitSum N ds ps)
+  pub kept : (splitTests N ds ps (length before) ≡ pass → ⊥) → after ≡ before
 
 -- path lengths: the buffer holds each pair's at its place, or is as it was
 pub record PathsAnswer (N : ℕ) (ps : List ℕ) (D : ℕ) (ns : List ℤ) (before after : List ℤ) (r : Verdict) : Type 0 where
-  pub number : numberOf r ≡ pathsNumber N ps D ns (length before)
+  pub answer : answerOf r ≡ pathsTests N ps D ns (length before)
   pub size : length after ≡ length before
-  pub filled : pathsNumber N ps D ns (length before) ≡ 0 → (i j : ℕ) → i < j → j < N → entryOf after (place N i j) ≡ pathOf ps ns (i, j)
-  pub kept : (pathsNumber N ps D ns (length before) ≡ 0 → ⊥) → after ≡ before
+  pub filled : pathsTests N ps D ns (length before) ≡ pass → (i j : ℕ) → i < j → j < N → entryOf after (place N i j) ≡ pathOf ps ns (i, j)
+  pub kept : (pathsTests N ps D ns (length before) ≡ pass → ⊥) → after ≡ before

@@ -1,7 +1,9 @@
 // Tables over lent slices: the split sum of each edge, and the path of each pair. Both answer for any input; a refusal
 // leaves the lent buffer as it was.
 use tree::Tree;
+use verdict::Place;
 use verdict::Reason;
+use verdict::Refusal;
 use verdict::Verdict;
 ghost use mathlib.Core.Path.{_≡_};
 ghost use Prim.Native.Nat.{ℕ, _≤_, _<_};
@@ -54,7 +56,10 @@ pub fn split_sums(n: u32, distances: &[u16], parents: &[u8], sums: &mut [i64]) -
         return Verdict::Refused(reason);
     }
     if sums.len() != parents.len() {
-        return Verdict::Refused(Reason::Buffer);
+        return Verdict::Refused(Refusal {
+            reason: Reason::Buffer,
+            place: Place::Nowhere,
+        });
     }
     let strains = n as usize;
     let masks = clusters::clusters(strains, parents);
@@ -106,7 +111,10 @@ pub fn path_lengths(
         return Verdict::Refused(reason);
     }
     if paths.len() as u64 != matrix::pair_count(n) {
-        return Verdict::Refused(Reason::Buffer);
+        return Verdict::Refused(Refusal {
+            reason: Reason::Buffer,
+            place: Place::Nowhere,
+        });
     }
     let strains = n as usize;
     let masks = clusters::clusters(strains, parents);

@@ -2,18 +2,17 @@
 use mathlib.Core.Path.{_≡_, sym, _∙_, ap, ap₂}
 use mathlib.Core.List.{List}
 use Prim.Native.Nat.{ℕ}
-use native.Mathlib.Decide.{ℕ-discrete}
 use Rattle.exact.proofs.Decide.{by-cases}
 use Rattle.verdict.specs.declared.Verdict.{Verdict}
-use Rattle.verdict.specs.Number.{numberOf}
-use Rattle.verdict.proofs.Answers.{same-answer}
+use Rattle.verdict.specs.Answer.{answerOf}
+use Rattle.verdict.proofs.Answers.{passes, same-answer}
 use Rattle.tree.specs.declared.Tree.{Tree}
 use Rattle.tree.specs.declared.Planted.{Planted}
-use Rattle.trees.specs.Tests.{treeNumber}
+use Rattle.trees.specs.Tests.{treeTests}
 use Rattle.tree.specs.Kept.{Kept, Blank, TreeAnswer}
 
 -- `check_tree`
-pub one-answer : (N : ℕ) (ps : List ℕ) (v w : Verdict) → numberOf v ≡ treeNumber N ps → numberOf w ≡ treeNumber N ps → v ≡ w
+pub one-answer : (N : ℕ) (ps : List ℕ) (v w : Verdict) → answerOf v ≡ treeTests N ps → answerOf w ≡ treeTests N ps → v ≡ w
 one-answer N ps v w p q = same-answer v w (p ∙ sym q)
 
 same-tree : (s t : Tree) → s .n ≡ t .n → s .edges ≡ t .edges → s .parents ≡ t .parents → s ≡ t
@@ -34,7 +33,7 @@ same-planted r s a b = ap₂ (λ (v : Verdict) (t : Tree). record { verdict = v;
 -- `Tree::new`
 pub one-tree : (N : ℕ) (ps : List ℕ) (r s : Planted) → TreeAnswer N ps r → TreeAnswer N ps s → r ≡ s
 one-tree N ps r s p q =
-    same-planted r s (one-answer N ps (r .verdict) (s .verdict) (p .number) (q .number))
-    (by-cases (ℕ-discrete (treeNumber N ps) 0)
+    same-planted r s (one-answer N ps (r .verdict) (s .verdict) (p .answer) (q .answer))
+    (by-cases (passes (treeTests N ps))
     (λ e. same-kept N ps (r .tree) (s .tree) (p .kept e) (q .kept e))
     (λ e. same-blank (r .tree) (s .tree) (p .blank e) (q .blank e)))

@@ -4,12 +4,12 @@ use mathlib.Core.List.{List}
 use Prim.Native.Nat.{ℕ}
 use lib.ListN.{length}
 use Rattle.exact.specs.Table.{table}
-use Rattle.verdict.specs.Number.{numberOf}
+use Rattle.verdict.specs.Answer.{pass, answerOf}
 use Rattle.tree.specs.declared.Tree.{Tree}
 use Rattle.tree.specs.declared.Planted.{Planted}
 use Rattle.trees.specs.Chain.{parentOf}
 use Rattle.trees.specs.Limits.{maxEdges}
-use Rattle.trees.specs.Tests.{treeNumber}
+use Rattle.trees.specs.Tests.{treeTests}
 
 -- an allowed tree: its parents, followed by zeros
 pub record Kept (N : ℕ) (ps : List ℕ) (t : Tree) : Type 0 where
@@ -25,6 +25,6 @@ pub record Blank (t : Tree) : Type 0 where
 
 -- the whole answer
 pub record TreeAnswer (N : ℕ) (ps : List ℕ) (r : Planted) : Type 0 where
-  pub number : numberOf (r .verdict) ≡ treeNumber N ps
-  pub kept : treeNumber N ps ≡ 0 → Kept N ps (r .tree)
-  pub blank : (treeNumber N ps ≡ 0 → ⊥) → Blank (r .tree)
+  pub answer : answerOf (r .verdict) ≡ treeTests N ps
+  pub kept : treeTests N ps ≡ pass → Kept N ps (r .tree)
+  pub blank : (treeTests N ps ≡ pass → ⊥) → Blank (r .tree)

@@ -1,7 +1,9 @@
 // The strain tree: the parent of each vertex, and the tests of such a table. Vertices 0 to n-1 are the strains, the others are inner, and the last is the root. Edge v joins v
 // to its parent, so there are as many edges as entries in the table.
 use matrix::Matrix;
+use verdict::Place;
 use verdict::Reason;
+use verdict::Refusal;
 use verdict::Verdict;
 ghost use mathlib.Core.Path.{_≡_};
 ghost use mathlib.Core.Bool.{_||_};
@@ -9,12 +11,12 @@ ghost use Prim.Native.Nat.{ℕ, _+_, _≤_, _<_};
 ghost use lib.Dec.{ltb};
 ghost use lib.ListN.{length, getD};
 ghost use Rattle.exact.specs.Table.{table};
-ghost use Rattle.verdict.specs.Number.{numberOf};
-ghost use Rattle.verdict.specs.Table.{some};
+ghost use Rattle.verdict.specs.Answer.{answerOf};
+ghost use Rattle.verdict.specs.Table.{first};
 ghost use Rattle.trees.specs.Chain.{parentOf};
 ghost use Rattle.trees.specs.Limits.{maxEdges, maxVertices};
 ghost use Rattle.trees.specs.Allowed.{children};
-ghost use Rattle.trees.specs.Tests.{treeNumber, parentOut, childrenOut};
+ghost use Rattle.trees.specs.Tests.{treeTests, parentOut, childrenOut};
 ghost use Rattle.tree.specs.Kept.{TreeAnswer};
 
 // An allowed tree of n strains: its parents, then zeros.
@@ -30,26 +32,26 @@ pub struct Planted {
     pub tree: Tree,
 }
 
-// Some parent is not greater than its child, below n or past the root.
-fn some_parent_out(n: usize, parents: &[u8]) -> bool
-    ensures { λ r. ⌜ r ≡ some (length (now (parents .entry))) (parentOut n (length (now (parents .entry))) (parentOf (now (parents .entry)))) ⌝ }
+// The first vertex whose parent is not greater than it, below n or past the root; the count of edges where none is.
+fn first_parent_out(n: usize, parents: &[u8]) -> usize
+    ensures { λ r. ⌜ r ≡ first (length (now (parents .entry))) (parentOut n (length (now (parents .entry))) (parentOf (now (parents .entry)))) ⌝ }
 {
     let edges = parents.len();
     let mut v = 0;
     while v < edges {
         let p = parents[v] as usize;
         if p <= v {
-            return true;
+            return v;
         }
         if p < n {
-            return true;
+            return v;
         }
         if p > edges {
-            return true;
+            return v;
         }
         v += 1;
     }
-    false
+    edges
 }
 
 // Zeros, by functions of their own: proofs then carry a name in place of every entry.
@@ -91,48 +93,78 @@ fn count_out(count: u8, needed: u8, spare: u8) -> bool
     count - needed > spare
 }
 
-// Some inner vertex has fewer children than it needs, two, or three at the root, or more than `spare` above that.
-pub fn some_children_out(n: usize, parents: &[u8], spare: u8) -> bool
+// The first inner vertex that has fewer children than it needs, two, or three at the root, or more than `spare` above
+// that; the count of vertices where none has.
+pub fn first_children_out(n: usize, parents: &[u8], spare: u8) -> usize
     requires { ⌜ (n ≤ length (now parents)) × (length (now parents) ≤ maxEdges) ⌝ }
     requires { ⌜ ((v : ℕ) → v < length (now parents) → parentOf (now parents) v ≤ length (now parents)) ⌝ }
-    ensures { λ r. ⌜ r ≡ some (length (now (parents .entry)) + 1) (childrenOut spare n (length (now (parents .entry))) (parentOf (now (parents .entry)))) ⌝ }
+    ensures { λ r. ⌜ r ≡ first (length (now (parents .entry)) + 1) (childrenOut spare n (length (now (parents .entry))) (parentOf (now (parents .entry)))) ⌝ }
 {
     let edges = parents.len();
     let counts = child_counts(parents);
     let mut w = n;
     while w < edges {
         if count_out(counts[w], 2, spare) {
-            return true;
+            return w;
         }
         w += 1;
     }
-    count_out(counts[edges], 3, spare)
+    if count_out(counts[edges], 3, spare) {
+        return edges;
+    }
+    edges + 1
 }
 
-// The number of a table of parents, or 0: the tests in their order (RULES, Numbers of refusal).
+// The answer to a table of parents: 6, 8, 9 or 16, 10, the first that applies.
 pub fn check_tree(n: u32, parents: &[u8]) -> Verdict
-    ensures { λ r. ⌜ numberOf r ≡ treeNumber n (now (parents .entry)) ⌝ }
+    ensures { λ r. ⌜ answerOf r ≡ treeTests n (now (parents .entry)) ⌝ }
 {
     let strains = n as usize;
     if strains < Matrix::MIN_STRAINS {
-        return Verdict::Refused(Reason::Strains);
+        return Verdict::Refused(Refusal {
+            reason: Reason::Strains,
+            place: Place::Nowhere,
+        });
     }
     if strains > Matrix::MAX_STRAINS {
-        return Verdict::Refused(Reason::Strains);
+        return Verdict::Refused(Refusal {
+            reason: Reason::Strains,
+            place: Place::Nowhere,
+        });
     }
     // V is one more than the edges; the tests compare the edges, so that no sum can wrap.
     let edges = parents.len();
     if edges < strains {
-        return Verdict::Refused(Reason::Vertices);
+        return Verdict::Refused(Refusal {
+            reason: Reason::Vertices,
+            place: Place::Nowhere,
+        });
     }
     if edges > 2 * strains - 3 {
-        return Verdict::Refused(Reason::Vertices);
+        return Verdict::Refused(Refusal {
+            reason: Reason::Vertices,
+            place: Place::Nowhere,
+        });
     }
-    if some_parent_out(strains, parents) {
-        return Verdict::Refused(Reason::Parent);
+    let v = first_parent_out(strains, parents);
+    if v < edges {
+        if parents[v] as usize > edges {
+            return Verdict::Refused(Refusal {
+                reason: Reason::PastRoot,
+                place: Place::Vertex(v),
+            });
+        }
+        return Verdict::Refused(Refusal {
+            reason: Reason::Parent,
+            place: Place::Vertex(v),
+        });
     }
-    if some_children_out(strains, parents, Tree::MAX_EDGES as u8) {
-        return Verdict::Refused(Reason::Children);
+    let w = first_children_out(strains, parents, Tree::MAX_EDGES as u8);
+    if w <= edges {
+        return Verdict::Refused(Refusal {
+            reason: Reason::Children,
+            place: Place::Vertex(w),
+        });
     }
     Verdict::Accepted
 }

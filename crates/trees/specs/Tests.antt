@@ -4,8 +4,8 @@ use mathlib.Core.List.{List}
 use Prim.Native.Nat.{ℕ, _+_, _-_, _*_}
 use lib.Dec.{eqb, ltb, leb}
 use lib.ListN.{length}
-use Rattle.verdict.specs.Number.{test, _orElse_}
-use Rattle.verdict.specs.Table.{some}
+use Rattle.verdict.specs.Answer.{Answer, fault, test, atFirst, _orElse_}
+use Rattle.verdict.specs.declared.Place.the-variants.{Vertex}
 use Rattle.matrix.specs.Tests.{strainsOut}
 use Rattle.trees.specs.Chain.{parentOf}
 use Rattle.trees.specs.Allowed.{children}
@@ -14,9 +14,13 @@ use Rattle.trees.specs.Allowed.{children}
 abbrev pub verticesOut : ℕ → ℕ → Bool
 verticesOut N V′ = ltb V′ (N + 1) || ltb (2 * N - 2) V′
 
--- 9: a parent not greater than its child, below N or above V - 1
+-- 9 and 16: a parent not greater than its child, below N or above V - 1
 abbrev pub parentOut : ℕ → ℕ → (ℕ → ℕ) → ℕ → Bool
 parentOut N K par v = leb (par v) v || (ltb (par v) N || ltb K (par v))
+
+-- which of the two a parent that is out gets: 16 above V - 1, 9 otherwise
+abbrev pub parentFault : ℕ → (ℕ → ℕ) → ℕ → Answer
+parentFault K par v = fault (cond (ltb K (par v)) 16 9) (Vertex v)
 
 -- how many children a vertex needs: none at a strain, three at the root, two at another inner vertex
 abbrev pub needed : ℕ → ℕ → ℕ → ℕ
@@ -32,10 +36,10 @@ abbrev pub childrenOut : ℕ → ℕ → ℕ → (ℕ → ℕ) → ℕ → Bool
 childrenOut spare N K par w =
     cond (ltb w N) false (ltb (children K par w) (needed N K w) || ltb (needed N K w + spare) (children K par w))
 
--- the number that a tree gets
-abbrev pub treeNumber : ℕ → List ℕ → ℕ
-treeNumber N ps =
+-- the answer that a tree gets
+abbrev pub treeTests : ℕ → List ℕ → Answer
+treeTests N ps =
     test 6 (strainsOut N)
     orElse test 8 (verticesOut N (length ps + 1))
-    orElse test 9 (some (length ps) (parentOut N (length ps) (parentOf ps)))
-    orElse test 10 (some (length ps + 1) (childrenFew N (length ps) (parentOf ps)))
+    orElse atFirst (length ps) (parentOut N (length ps) (parentOf ps)) (parentFault (length ps) (parentOf ps))
+    orElse atFirst (length ps + 1) (childrenFew N (length ps) (parentOf ps)) (λ w. fault 10 (Vertex w))

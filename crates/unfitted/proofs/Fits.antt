@@ -1,7 +1,6 @@
 -- The direct fit of a sheet, from what its reader handed over: a refusal is the sheet's (`refused-sheet`), and so is the answer to the
 -- degrees of its tree (`degrees-asked`); a fit has its numbers and its three tables (`fitted-sheet`).
 use mathlib.Core.Path.{_≡_, refl, sym, _∙_, ap}
-use mathlib.Core.Bool.{false}
 use mathlib.Core.List.{List, _++_}
 use Prim.Native.Nat.{ℕ, _+_, _-_, _≤_}
 use native.Mathlib.Omega.{arith}
@@ -10,18 +9,18 @@ use lib.ListN.{length, getD, take, drop, length-drop, length-append, List·getD-
 use lib.Seq.{length-take-le, getD-drop, getD-append-add}
 use Rattle.exact.specs.Table.{table}
 use Rattle.exact.proofs.Fill.{length-table, getD-table, getD-table-const}
-use Rattle.verdict.specs.Number.{numberOf, refusalOf, test}
-use Rattle.verdict.specs.declared.Reason.{Reason}
+use Rattle.verdict.specs.Answer.{pass, answerOf, refusalOf}
+use Rattle.verdict.specs.declared.Refusal.{Refusal}
 use Rattle.verdict.specs.declared.Verdict.{Verdict}
 use Rattle.verdict.specs.declared.Verdict.the-variants.{Accepted, Refused}
-use Rattle.verdict.proofs.Answers.{not-zero, test-zero}
+use Rattle.verdict.proofs.Answers.{not-pass}
 use Rattle.trees.specs.Limits.{maxEdges}
 use Rattle.trees.specs.Chain.{parentOf}
 use Rattle.trees.specs.Allowed.{Allowed}
 use Rattle.trees.specs.EdgeTable.{EdgeTable}
 use Rattle.trees.proofs.EdgeTables.{front-kept}
 use Rattle.fit.specs.Stands.{Posted}
-use Rattle.resolution.specs.Tests.{unresolved}
+use Rattle.resolution.specs.Tests.{degreeTests}
 use Rattle.resolution.specs.Lengths.{topOf, bottomOf, thousandthOf}
 use Rattle.resolving.specs.declared.DirectFit.{DirectFit}
 use Rattle.resolving.specs.Answers.{Resolves}
@@ -31,10 +30,10 @@ use Rattle.reading.specs.Reads.{SheetAnswer}
 use Rattle.reading.proofs.Parts.{Parts, accepted, read-parts, of-parts, to-parts}
 use Rattle.reading.proofs.Whole.{two-asked}
 use Rattle.unfitted.specs.declared.UnfittedFit.{UnfittedFit}
-use Rattle.unfitted.specs.Fits.{unfittedNumber, Denominators, Fitted, Unfitted, UnfittedAnswer}
+use Rattle.unfitted.specs.Fits.{unfittedTests, Denominators, Fitted, Unfitted, UnfittedAnswer}
 
-pub refused-sheet : (s : List ℕ) (x : UnfittedFit) (q : Reason) → x .fit .verdict ≡ Refused q → Unfitted x → refusalOf q ≡ unfittedNumber s → UnfittedAnswer s x
-refused-sheet s x q e u g = record { number = ap numberOf e ∙ g; fitted = λ z. absurd (not-zero q (g ∙ z)); unfitted = λ _. u }
+pub refused-sheet : (s : List ℕ) (x : UnfittedFit) (q : Refusal) → x .fit .verdict ≡ Refused q → Unfitted x → refusalOf q ≡ unfittedTests s → UnfittedAnswer s x
+refused-sheet s x q e u g = record { answer = ap answerOf e ∙ g; fitted = λ z. absurd (not-pass q (g ∙ z)); unfitted = λ _. u }
 
 -- K denominators with zeros behind them
 module _ (K : ℕ) (f : ℕ → ℕ) (front rest : List ℕ) (few : K ≤ maxEdges) (e : front ≡ table K f) (z : (k : ℕ) → getD rest k 0 ≡ 0) (size : length rest ≡ maxEdges - K) where
@@ -86,18 +85,18 @@ module _ (s : List ℕ) (r : Sheet) (a : SheetAnswer 2 s r) (e : r .verdict ≡ 
   pub parents-size : r .end - r .parents ≡ length (take (r .end - r .parents) (drop (r .parents) s))
   parents-size = parts .count ∙ sym (ap length (parts .parents))
 
-  module _ (v : Verdict) (h : numberOf v ≡ test 25 (unresolved (r .strains) (take (r .end - r .parents) (drop (r .parents) s)))) where
-    pub degrees-asked : numberOf v ≡ unfittedNumber s
+  module _ (v : Verdict) (h : answerOf v ≡ degreeTests (r .strains) (take (r .end - r .parents) (drop (r .parents) s))) where
+    pub degrees-asked : answerOf v ≡ unfittedTests s
     degrees-asked =
-        of-parts parts (λ N ds ps. numberOf v ≡ test 25 (unresolved N ps)) h
-        ∙ sym (two-asked s (accepted 2 s r a e) (test 25 (unresolved (strainsOf s) (parentsOf s))))
+        of-parts parts (λ N ds ps. answerOf v ≡ degreeTests N ps) h
+        ∙ sym (two-asked s (accepted 2 s r a e) (degreeTests (strainsOf s) (parentsOf s)))
 
     module _ (f : v ≡ Accepted) where
-      pub resolved : unresolved (r .strains) (take (r .end - r .parents) (drop (r .parents) s)) ≡ false
-      resolved = test-zero 24 (unresolved (r .strains) (take (r .end - r .parents) (drop (r .parents) s))) (sym h ∙ ap numberOf f)
+      pub resolved : degreeTests (r .strains) (take (r .end - r .parents) (drop (r .parents) s)) ≡ pass
+      resolved = sym h ∙ ap answerOf f
 
-      zero : unfittedNumber s ≡ 0
-      zero = sym degrees-asked ∙ ap numberOf f
+      zero : unfittedTests s ≡ pass
+      zero = sym degrees-asked ∙ ap answerOf f
 
       module _ (blank blank′ : List ℤ) (none : List ℕ) (b : blank ≡ table maxEdges (λ _. pos 0)) (c : none ≡ table maxEdges (λ _. 0)) (d : blank′ ≡ table maxEdges (λ _. pos 0))
           (ns ms : List ℤ) (es : List ℕ) (x : DirectFit) (g : x .verdict ≡ Accepted)
@@ -121,7 +120,7 @@ module _ (s : List ℕ) (r : Sheet) (a : SheetAnswer 2 s r) (e : r .verdict ≡ 
           rounded = ms ++ drop (r .end - r .parents) blank′;
         })
         fitted-sheet = record {
-          number = ap numberOf g ∙ sym zero;
+          answer = ap answerOf g ∙ sym zero;
           fitted = λ _. record {
             strains = parts .strains;
             edges = parts .count;

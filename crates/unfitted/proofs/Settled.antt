@@ -6,12 +6,13 @@ use native.Mathlib.Decide.{ℕ-discrete, decLt}
 use native.Mathlib.Omega.{arith}
 use lib.IntN.{ℤ}
 use lib.Seq.{ext-getD}
+use Rattle.verdict.specs.Answer.{pass}
 use Rattle.exact.proofs.Decide.{by-cases}
 use Rattle.verdict.specs.declared.Verdict.{Verdict}
-use Rattle.verdict.proofs.Answers.{same-answer}
+use Rattle.verdict.proofs.Answers.{passes, same-answer}
 use Rattle.trees.proofs.EdgeTables.{one-table}
 use Rattle.unfitted.specs.declared.UnfittedFit.{UnfittedFit}
-use Rattle.unfitted.specs.Fits.{unfittedNumber, Denominators, UnfittedAnswer}
+use Rattle.unfitted.specs.Fits.{unfittedTests, Denominators, UnfittedAnswer}
 
 one-denominators : {K : ℕ} {f : ℕ → ℕ} {a b : List ℕ} → Denominators K f a → Denominators K f b → a ≡ b
 one-denominators {K} {f} {a} {b} s t = ext-getD 0 a b (s .size ∙ sym (t .size))
@@ -40,10 +41,10 @@ same-fit x y e s =
     whole v r h n k ns es ms = record { fit = record { verdict = v; r = r; h = h }; strains = n; edges = k; tops = ns; bottoms = es; rounded = ms }
 
 pub one-unfitted : (s : List ℕ) (x y : UnfittedFit) → UnfittedAnswer s x → UnfittedAnswer s y → x ≡ y
-one-unfitted s x y p q = same-fit x y (same-answer (x .fit .verdict) (y .fit .verdict) (p .number ∙ sym (q .number)))
-    (by-cases (ℕ-discrete (unfittedNumber s) 0) (λ z. fits z) (λ n. none n))
+one-unfitted s x y p q = same-fit x y (same-answer (x .fit .verdict) (y .fit .verdict) (p .answer ∙ sym (q .answer)))
+    (by-cases (passes (unfittedTests s)) (λ z. fits z) (λ n. none n))
   where
-    fits : unfittedNumber s ≡ 0 → Same x y
+    fits : unfittedTests s ≡ pass → Same x y
     fits z = let a = p .fitted z in let b = q .fitted z in record {
       r = a .resolves .r ∙ sym (b .resolves .r);
       h = a .resolves .h ∙ sym (b .resolves .h);
@@ -54,7 +55,7 @@ one-unfitted s x y p q = same-fit x y (same-answer (x .fit .verdict) (y .fit .ve
       rounded = one-table (a .rounded) (b .rounded);
     }
 
-    none : (unfittedNumber s ≡ 0 → ⊥) → Same x y
+    none : (unfittedTests s ≡ pass → ⊥) → Same x y
     none n = let a = p .unfitted n in let b = q .unfitted n in record {
       r = a .r ∙ sym (b .r);
       h = a .h ∙ sym (b .h);

@@ -1,4 +1,4 @@
--- The direct fit of a sheet without lengths: the number of its bytes, and the fit of what its two records hold, with the lengths in three
+-- The direct fit of a sheet without lengths: the answer to its bytes, and the fit of what its two records hold, with the lengths in three
 -- tables.
 use mathlib.Core.Path.{_≡_}
 use mathlib.Core.List.{List}
@@ -6,28 +6,28 @@ use Prim.Native.Nat.{ℕ, _≤_, _<_}
 use lib.IntN.{pos}
 use lib.ListN.{length, getD}
 use Rattle.exact.specs.Table.{table}
-use Rattle.verdict.specs.Number.{numberOf, test, _orElse_}
-use Rattle.matrix.specs.Tests.{matrixNumber}
+use Rattle.verdict.specs.Answer.{Answer, pass, answerOf, test, _orElse_}
+use Rattle.matrix.specs.Tests.{matrixTests}
 use Rattle.trees.specs.Limits.{maxEdges}
 use Rattle.trees.specs.EdgeTable.{EdgeTable}
-use Rattle.fit.specs.Tests.{postedNumber}
-use Rattle.resolution.specs.Tests.{unresolved}
+use Rattle.fit.specs.Tests.{postedTests}
+use Rattle.resolution.specs.Tests.{degreeTests}
 use Rattle.resolution.specs.Lengths.{topOf, bottomOf, thousandthOf}
 use Rattle.resolving.specs.Answers.{Resolves}
-use Rattle.records.specs.Form.{formNumber}
+use Rattle.records.specs.Form.{formTests}
 use Rattle.reading.specs.Holds.{strainsOf, distancesOf, parentsOf}
 use Rattle.reading.specs.Tests.{strainsDiffer}
 use Rattle.unfitted.specs.declared.UnfittedFit.{UnfittedFit}
 
--- the whole number of a sheet without lengths: its form, the matrix, whether the tree is for as many strains, both together, and whether
+-- the whole answer to a sheet without lengths: its form, the matrix, whether the tree is for as many strains, both together, and whether
 -- the tree is resolved; 1 to 10, 25
-abbrev pub unfittedNumber : List ℕ → ℕ
-unfittedNumber s =
-    formNumber 2 s
-    orElse matrixNumber (strainsOf s) (distancesOf s)
+abbrev pub unfittedTests : List ℕ → Answer
+unfittedTests s =
+    formTests 2 s
+    orElse matrixTests (strainsOf s) (distancesOf s)
     orElse test 8 (strainsDiffer s)
-    orElse postedNumber (strainsOf s) (distancesOf s) (parentsOf s)
-    orElse test 25 (unresolved (strainsOf s) (parentsOf s))
+    orElse postedTests (strainsOf s) (distancesOf s) (parentsOf s)
+    orElse degreeTests (strainsOf s) (parentsOf s)
 
 -- a denominator for each of K edges, then zeros
 pub record Denominators (K : ℕ) (f : ℕ → ℕ) (r : List ℕ) : Type 0 where
@@ -57,6 +57,6 @@ pub record Unfitted (x : UnfittedFit) : Type 0 where
 
 -- the whole answer
 pub record UnfittedAnswer (s : List ℕ) (r : UnfittedFit) : Type 0 where
-  pub number : numberOf (r .fit .verdict) ≡ unfittedNumber s
-  pub fitted : unfittedNumber s ≡ 0 → Fitted s r
-  pub unfitted : (unfittedNumber s ≡ 0 → ⊥) → Unfitted r
+  pub answer : answerOf (r .fit .verdict) ≡ unfittedTests s
+  pub fitted : unfittedTests s ≡ pass → Fitted s r
+  pub unfitted : (unfittedTests s ≡ pass → ⊥) → Unfitted r

@@ -2,7 +2,7 @@
 // bytes whatever get an answer.
 use resolving::DirectFit;
 use tree::Tree;
-use verdict::Reason;
+use verdict::Refusal;
 use verdict::Verdict;
 ghost use mathlib.Core.Path.{_≡_};
 ghost use Rattle.exact.specs.Table.{table};
@@ -28,12 +28,12 @@ fn no_denominators() -> [u32; Tree::MAX_EDGES]
 }
 
 // What a refused sheet gets.
-fn refused(reason: Reason) -> UnfittedFit
-    ensures { λ r. ⌜ (r .fit .verdict ≡ Verdict.Refused reason) × Unfitted r ⌝ }
+fn refused(refusal: Refusal) -> UnfittedFit
+    ensures { λ r. ⌜ (r .fit .verdict ≡ Verdict.Refused refusal) × Unfitted r ⌝ }
 {
     UnfittedFit {
         fit: DirectFit {
-            verdict: Verdict::Refused(reason),
+            verdict: Verdict::Refused(refusal),
             r: 0,
             h: 0,
         },
@@ -51,16 +51,16 @@ pub fn unfitted_fit(s: &[u8]) -> UnfittedFit
 {
     let sheet = reading::read(s, 2);
     let of_reader = sheet.verdict;
-    if let Verdict::Refused(reason) = of_reader {
-        return refused(reason);
+    if let Verdict::Refused(refusal) = of_reader {
+        return refused(refusal);
     }
     let strains = sheet.strains;
     let pairs = sheet.pairs;
     let parents = sheet.parents;
     let end = sheet.end;
     let of_tree = resolving::check_resolved(strains, &s[parents..end]);
-    if let Verdict::Refused(reason) = of_tree {
-        return refused(reason);
+    if let Verdict::Refused(refusal) = of_tree {
+        return refused(refusal);
     }
     let edges = end - parents;
     let distances = sheet.distances;

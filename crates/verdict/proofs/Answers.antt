@@ -1,112 +1,159 @@
--- An answer is known by its number, and what a caller learns from a number that several tests gave.
+-- An answer is known by its number and its place, and what a caller learns from an answer that several tests gave.
 use mathlib.Core.Path.{_≡_, refl, sym, _∙_, ap, subst}
-use mathlib.Core.Bool.{Bool, true, false, cond, _||_}
-use Prim.Native.Nat.{ℕ, zero, suc}
+use mathlib.Core.Bool.{Bool, true, false, cond, _||_, true≢false}
+use Prim.Native.Nat.{ℕ, zero, suc, _<_}
 use native.Mathlib.Omega.{arith}
-use lib.Dec.{T, eqb}
+use borrow.Author.Tests.{lt-ltb, le-ltb}
+use lib.Dec.{T, eqb, ltb}
 use Rattle.verdict.specs.declared.Reason.{Reason}
-use Rattle.verdict.specs.declared.Reason.the-variants.{SheetTooLong, RecordCut, WrongKind, WrongCounts, BytesLeft, Strains, Distance, Vertices, Parent, Children, Edges, Denominator, Numerator, Remainders, Buffer, Unresolved}
+use Rattle.verdict.specs.declared.Reason.the-variants.{SheetTooLong, RecordCut, WrongKind, WrongCounts, BytesLeft, Strains, Distance, Vertices, Parent, Children, Edges, Denominator, Numerator, Remainders, Buffer, PastRoot, Unresolved}
+use Rattle.verdict.specs.declared.Place.{Place}
+use Rattle.verdict.specs.declared.Refusal.{Refusal}
 use Rattle.verdict.specs.declared.Verdict.{Verdict}
 use Rattle.verdict.specs.declared.Verdict.the-variants.{Accepted, Refused}
-use Rattle.verdict.specs.Number.{numberOf, refusalOf, test, _orElse_}
+use Rattle.verdict.specs.Answer.{Answer, fault, pass, answerOf, refusalOf, reasonNumber, test, testAt, atFirst, _orElse_}
+use Rattle.verdict.specs.Table.{some, first}
+use Rattle.verdict.proofs.Table.{some-first, lowest, first-cong, some-cong}
 
--- the refusal that a number stands for
+-- the reason that a number stands for
 abbrev reasonOf : ℕ → Reason
 reasonOf k =
-    cond (eqb k 1) SheetTooLong (cond (eqb k 2) RecordCut (cond (eqb k 3) WrongKind (cond (eqb k 4) WrongCounts
-    (cond (eqb k 5) BytesLeft (cond (eqb k 6) Strains (cond (eqb k 7) Distance (cond (eqb k 8) Vertices
-    (cond (eqb k 9) Parent (cond (eqb k 10) Children (cond (eqb k 11) Edges (cond (eqb k 12) Denominator
-    (cond (eqb k 13) Numerator (cond (eqb k 14) Remainders (cond (eqb k 15) Buffer Unresolved))))))))))))))
+    cond (eqb k 1) SheetTooLong (cond (eqb k 2) RecordCut (cond (eqb k 3) WrongKind (cond (eqb k 4) WrongCounts (
+    cond (eqb k 5) BytesLeft (cond (eqb k 6) Strains (cond (eqb k 7) Distance (cond (eqb k 8) Vertices (
+    cond (eqb k 9) Parent (cond (eqb k 10) Children (cond (eqb k 11) Edges (cond (eqb k 12) Denominator (
+    cond (eqb k 13) Numerator (cond (eqb k 14) Remainders (cond (eqb k 15) Buffer (
+    cond (eqb k 16) PastRoot Unresolved)))))))))))))))
 
-reason-back : (r : Reason) → reasonOf (refusalOf r) ≡ r
-reason-back SheetTooLong = refl
-reason-back RecordCut = refl
-reason-back WrongKind = refl
-reason-back WrongCounts = refl
-reason-back BytesLeft = refl
-reason-back Strains = refl
-reason-back Distance = refl
-reason-back Vertices = refl
-reason-back Parent = refl
-reason-back Children = refl
-reason-back Edges = refl
-reason-back Denominator = refl
-reason-back Numerator = refl
-reason-back Remainders = refl
-reason-back Buffer = refl
-reason-back Unresolved = refl
+abbrev verdictOf : Answer → Verdict
+verdictOf pass = Accepted
+verdictOf (fault k p) = Refused (record { reason = reasonOf k; place = p })
 
-abbrev answerOf : ℕ → Verdict
-answerOf zero = Accepted
-answerOf (suc k) = Refused (reasonOf (suc k))
+refused-back : (x : Reason) (p : Place) → verdictOf (fault (reasonNumber x) p) ≡ Refused (record { reason = x; place = p })
+refused-back SheetTooLong p = refl
+refused-back RecordCut p = refl
+refused-back WrongKind p = refl
+refused-back WrongCounts p = refl
+refused-back BytesLeft p = refl
+refused-back Strains p = refl
+refused-back Distance p = refl
+refused-back Vertices p = refl
+refused-back Parent p = refl
+refused-back Children p = refl
+refused-back Edges p = refl
+refused-back Denominator p = refl
+refused-back Numerator p = refl
+refused-back Remainders p = refl
+refused-back Buffer p = refl
+refused-back PastRoot p = refl
+refused-back Unresolved p = refl
 
-answer-back : (v : Verdict) → answerOf (numberOf v) ≡ v
+answer-back : (v : Verdict) → verdictOf (answerOf v) ≡ v
 answer-back Accepted = refl
-answer-back (Refused SheetTooLong) = refl
-answer-back (Refused RecordCut) = refl
-answer-back (Refused WrongKind) = refl
-answer-back (Refused WrongCounts) = refl
-answer-back (Refused BytesLeft) = refl
-answer-back (Refused Strains) = refl
-answer-back (Refused Distance) = refl
-answer-back (Refused Vertices) = refl
-answer-back (Refused Parent) = refl
-answer-back (Refused Children) = refl
-answer-back (Refused Edges) = refl
-answer-back (Refused Denominator) = refl
-answer-back (Refused Numerator) = refl
-answer-back (Refused Remainders) = refl
-answer-back (Refused Buffer) = refl
-answer-back (Refused Unresolved) = refl
+answer-back (Refused r) = refused-back (r .reason) (r .place)
 
--- two answers with one number are the same answer
-pub same-answer : (v w : Verdict) → numberOf v ≡ numberOf w → v ≡ w
-same-answer v w e = sym (answer-back v) ∙ ap answerOf e ∙ answer-back w
+-- two verdicts with one answer are the same verdict
+pub same-answer : (v w : Verdict) → answerOf v ≡ answerOf w → v ≡ w
+same-answer v w e = sym (answer-back v) ∙ ap verdictOf e ∙ answer-back w
 
--- no refusal has the number of what is accepted
-pub not-zero : (r : Reason) → numberOf (Refused r) ≡ 0 → ⊥
-not-zero r e = let p : Refused r ≡ Accepted = same-answer (Refused r) Accepted e in let z : _≡_ {A = ℕ} 0 1 = cc in omega arith
-
--- ---- what a number tells of the tests behind it
--- several give 0 exactly where each does
-pub orElse-zero : (a b : ℕ) → (a orElse b) ≡ 0 → (a ≡ 0) × (b ≡ 0)
-orElse-zero zero b e = (refl, e)
-orElse-zero (suc a) b e = absurd (omega arith)
-
-pub zero-orElse : {a b : ℕ} → a ≡ 0 → b ≡ 0 → (a orElse b) ≡ 0
-zero-orElse e f = rw (e, f)
-
--- a refusal comes first
-pub first-refusal : (r : Reason) (m : ℕ) → (refusalOf r orElse m) ≡ refusalOf r
-first-refusal r m = keeps (refusalOf r) (not-zero r)
+-- no refusal is an answer that passes
+pub refuses : (k : ℕ) (p : Place) → fault k p ≡ pass → ⊥
+refuses k p e = subst refusal e tt
   where
-    keeps : (k : ℕ) → (k ≡ 0 → ⊥) → (k orElse m) ≡ k
-    keeps zero h = absurd (h refl)
-    keeps (suc k) h = refl
+    refusal : Answer → Type 0
+    refusal pass = ⊥
+    refusal (fault k p) = Unit {0}
 
--- a row of tests by the answer to its first: a refusal is the row's number, otherwise the rest decides
-pub refused-row : (r : Reason) (v : Verdict) (a b : ℕ) → v ≡ Refused r → numberOf v ≡ a → refusalOf r ≡ (a orElse b)
-refused-row r v a b e f = sym (first-refusal r b) ∙ ap (λ (z : ℕ). z orElse b) (sym (ap numberOf e) ∙ f)
+pub not-pass : (r : Refusal) → refusalOf r ≡ pass → ⊥
+not-pass r e = refuses _ _ e
 
-pub accepted-row : (v : Verdict) (a b : ℕ) → v ≡ Accepted → numberOf v ≡ a → b ≡ (a orElse b)
-accepted-row v a b e f = ap (λ (z : ℕ). z orElse b) (sym (ap numberOf e) ∙ f)
+pub passes : (a : Answer) → Dec (a ≡ pass)
+passes pass = yes refl
+passes (fault k p) = no (refuses k p)
+
+-- ---- what an answer tells of the tests behind it
+-- several pass exactly where each does
+pub orElse-pass : (a b : Answer) → (a orElse b) ≡ pass → (a ≡ pass) × (b ≡ pass)
+orElse-pass pass b e = (refl, e)
+orElse-pass (fault k p) b e = absurd (refuses k p e)
+
+pub pass-orElse : {a b : Answer} → a ≡ pass → b ≡ pass → (a orElse b) ≡ pass
+pass-orElse e f = rw (e, f)
+
+-- a row of tests by the answer to its first: a refusal is the row's answer, otherwise the rest decides
+pub refused-row : (r : Refusal) (v : Verdict) (a b : Answer) → v ≡ Refused r → answerOf v ≡ a → refusalOf r ≡ (a orElse b)
+refused-row r v a b e f = ap (λ (z : Answer). z orElse b) (sym (ap answerOf e) ∙ f)
+
+pub accepted-row : (v : Verdict) (a b : Answer) → v ≡ Accepted → answerOf v ≡ a → b ≡ (a orElse b)
+accepted-row v a b e f = ap (λ (z : Answer). z orElse b) (sym (ap answerOf e) ∙ f)
 
 -- tests in a row may be grouped, and asked once more
-pub orElse-assoc : (a b d : ℕ) → ((a orElse b) orElse d) ≡ (a orElse (b orElse d))
-orElse-assoc zero b d = refl
-orElse-assoc (suc a) b d = refl
+pub orElse-assoc : (a b d : Answer) → ((a orElse b) orElse d) ≡ (a orElse (b orElse d))
+orElse-assoc pass b d = refl
+orElse-assoc (fault k p) b d = refl
 
-pub orElse-again : (a b : ℕ) → (a orElse (a orElse b)) ≡ (a orElse b)
-orElse-again zero b = refl
-orElse-again (suc a) b = refl
+pub orElse-again : (a b : Answer) → (a orElse (a orElse b)) ≡ (a orElse b)
+orElse-again pass b = refl
+orElse-again (fault k p) b = refl
 
--- a test gives 0 exactly where it does not apply
-pub test-zero : (k : ℕ) (b : Bool) → test (suc k) b ≡ 0 → b ≡ false
-test-zero k true e = absurd (omega arith)
-test-zero k false e = refl
+-- a test passes exactly where it does not apply
+pub testAt-pass : (k : ℕ) (p : Place) (b : Bool) → testAt k p b ≡ pass → b ≡ false
+testAt-pass k p true e = absurd (refuses k p e)
+testAt-pass k p false e = refl
 
-pub zero-test : (k : ℕ) {b : Bool} → b ≡ false → test k b ≡ 0
-zero-test k e = rw e
+pub pass-testAt : (k : ℕ) (p : Place) {b : Bool} → b ≡ false → testAt k p b ≡ pass
+pass-testAt k p e = rw e
+
+pub test-pass : (k : ℕ) (b : Bool) → test k b ≡ pass → b ≡ false
+test-pass k b e = testAt-pass k _ b e
+
+pub pass-test : (k : ℕ) {b : Bool} → b ≡ false → test k b ≡ pass
+pass-test k e = rw e
+
+-- a test of entries: the lowest at fault gives the answer, and where it passes none is
+pub at-first : (n : ℕ) (p : ℕ → Bool) (f : ℕ → Answer) (i : ℕ) → i < n → first n p ≡ i → atFirst n p f ≡ f i
+at-first n p f i h e = rw (e, lt-ltb i n h)
+
+pub at-none : (n : ℕ) (p : ℕ → Bool) (f : ℕ → Answer) → some n p ≡ false → atFirst n p f ≡ pass
+at-none n p f e = rw (sym (some-first n p), e)
+
+pub first-pass : (n : ℕ) (p : ℕ → Bool) (f : ℕ → Answer) → ((i : ℕ) → f i ≡ pass → ⊥) → atFirst n p f ≡ pass → some n p ≡ false
+first-pass n p f h e = go (some n p) refl
+  where
+    go : (b : Bool) → some n p ≡ b → some n p ≡ false
+    go false q = q
+    go true q = absurd (h (first n p) (sym (at-first n p f (first n p) (lowest n p q .below) refl) ∙ e))
+
+-- tests and answers that agree below n give one answer
+pub atFirst-cong : (n : ℕ) (p q : ℕ → Bool) (f g : ℕ → Answer) → ((i : ℕ) → i < n → p i ≡ q i) → ((i : ℕ) → i < n → f i ≡ g i) → atFirst n p f ≡ atFirst n q g
+atFirst-cong n p q f g h k = go (some n p) refl
+  where
+    go : (b : Bool) → some n p ≡ b → atFirst n p f ≡ atFirst n q g
+    go true e = let l = lowest n p e .below in at-first n p f (first n p) l refl ∙ k (first n p) l ∙ sym (at-first n q g (first n p) l (sym (first-cong n p q h)))
+    go false e = at-none n p f e ∙ sym (at-none n q g (sym (some-cong n p q h) ∙ e))
+
+-- ---- what holds of every refusal of a row of tests: P of its number and its place
+abbrev pub Of : (ℕ → Place → Type 0) → Answer → Type 0
+Of P pass = Unit {0}
+Of P (fault k p) = P k p
+
+module _ (P : ℕ → Place → Type 0) where
+  pub of-test : (k : ℕ) (p : Place) (b : Bool) → P k p → Of P (testAt k p b)
+  of-test k p true h = h
+  of-test k p false h = tt
+
+  pub of-row : (a b : Answer) → Of P a → Of P b → Of P (a orElse b)
+  of-row pass b h g = g
+  of-row (fault k p) b h g = h
+
+  pub of-first : (n : ℕ) (p : ℕ → Bool) (f : ℕ → Answer) → ((i : ℕ) → i < n → p i ≡ true → ((k : ℕ) → k < i → p k ≡ false) → Of P (f i)) → Of P (atFirst n p f)
+  of-first n p f h = go (some n p) refl
+    where
+      go : (b : Bool) → some n p ≡ b → Of P (atFirst n p f)
+      go true e = let l = lowest n p e in subst (Of P) (sym (at-first n p f (first n p) (l .below) refl)) (h (first n p) (l .below) (l .fault) (l .rest))
+      go false e = subst (Of P) (sym (at-none n p f e)) tt
+
+  pub of-refusal : (a : Answer) (k : ℕ) (p : Place) → Of P a → a ≡ fault k p → P k p
+  of-refusal a k p h e = subst (Of P) e h
 
 -- neither of two faults
 pub or-none : (a b : Bool) → (a || b) ≡ false → (a ≡ false) × (b ≡ false)

@@ -1,10 +1,9 @@
-// The answer that every test of a sheet, a table or a buffer gives. `numberOf`, in specs/Number.antt,
-// says which number of refusal (RULES, Numbers of refusal) each case stands for; contracts speak of answers through it.
+// The answer that every test of a sheet, a table or a buffer gives. `answerOf`, in specs/Answer.antt, says which
+// number and place of RULES, Numbers of refusal, each case stands for; contracts speak of answers through it.
 ghost use mathlib.Core.Path.{_≡_};
-ghost use Rattle.verdict.specs.Number.{numberOf, refusalOf, _orElse_};
+ghost use Rattle.verdict.specs.Answer.{numberOf, reasonNumber, answerOf, _orElse_};
 
-// Why something is refused: a case for each number of refusal, 1 to 15 in their order, and 25
-// for a tree that is not resolved.
+// Why something is refused: a case for each number of RULES, Numbers of refusal, in the order of the numbers.
 pub enum Reason {
     SheetTooLong,
     RecordCut,
@@ -21,17 +20,32 @@ pub enum Reason {
     Numerator,
     Remainders,
     Buffer,
+    PastRoot,
     Unresolved,
+}
+
+// Where the fault is: the lowest byte, vertex or edge at fault, an edge with its sum, or no place of its own.
+pub enum Place {
+    Nowhere,
+    Byte(usize),
+    Vertex(usize),
+    Edge(usize),
+    EdgeSum(usize, i64),
+}
+
+pub struct Refusal {
+    pub reason: Reason,
+    pub place: Place,
 }
 
 pub enum Verdict {
     Accepted,
-    Refused(Reason),
+    Refused(Refusal),
 }
 
 // The number of a refusal.
-fn refusal(reason: Reason) -> u32
-    ensures { λ r. ⌜ r ≡ refusalOf reason ⌝ }
+fn reason_number(reason: Reason) -> u32
+    ensures { λ r. ⌜ r ≡ reasonNumber reason ⌝ }
 {
     match reason {
         Reason::SheetTooLong => 1,
@@ -49,6 +63,7 @@ fn refusal(reason: Reason) -> u32
         Reason::Numerator => 13,
         Reason::Remainders => 14,
         Reason::Buffer => 15,
+        Reason::PastRoot => 16,
         Reason::Unresolved => 25,
     }
 }
@@ -59,16 +74,19 @@ pub fn number(v: Verdict) -> u32
 {
     match v {
         Verdict::Accepted => 0,
-        Verdict::Refused(reason) => refusal(reason),
+        Verdict::Refused(refusal) => {
+            let reason = refusal.reason;
+            reason_number(reason)
+        }
     }
 }
 
 // The first of two answers that is a refusal.
 pub fn or_else(a: Verdict, b: Verdict) -> Verdict
-    ensures { λ r. ⌜ numberOf r ≡ (numberOf a orElse numberOf b) ⌝ }
+    ensures { λ r. ⌜ answerOf r ≡ (answerOf a orElse answerOf b) ⌝ }
 {
     match a {
         Verdict::Accepted => b,
-        Verdict::Refused(reason) => Verdict::Refused(reason),
+        Verdict::Refused(refusal) => Verdict::Refused(refusal),
     }
 }

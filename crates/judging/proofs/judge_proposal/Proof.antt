@@ -1,13 +1,12 @@
 -- `judge_proposal`: the lengths by themselves, then the edges' sums.
-use mathlib.Core.Path.{_≡_, sym, _∙_, ap}
-use mathlib.Core.Bool.{true, false}
+use mathlib.Core.Path.{sym, _∙_, ap}
 use borrow.Author.Needs.{needs}
 use lib.ListN.{length}
-use Rattle.verdict.specs.Number.{numberOf, test}
+use Rattle.verdict.specs.Answer.{answerOf}
 use Rattle.verdict.proofs.Answers.{refused-row, accepted-row}
-use Rattle.lengths.specs.Tests.{lengthsNumber}
+use Rattle.lengths.specs.Tests.{lengthsTests}
 use Rattle.lengths.proofs.Checked.{→proper}
-use Rattle.fit.specs.Tests.{remaindersOut, proposalNumber}
+use Rattle.fit.specs.Tests.{sumsTests}
 use Rattle.judging.proofs.judge_proposal.Statement.{statement}
 use Rattle.judging.proofs.judge_proposal.Tie as tie
 
@@ -20,28 +19,22 @@ enum-known-of-lengths c = search needs
 returns : tie.Need-returns
 returns c = let p = c .before .before .before in
     let a = p .before .before .before .args in
-    refused-row (c .before .of-lengths .given .0 .0) (p .check-lengths .result) (lengthsNumber (length (a .parents .now)) (a .d) (a .numerators .now)) (test 14 (remaindersOut (a .n) (a .distances .now) (a .parents .now) (a .d) (a .numerators .now))) (c .before .of-lengths .given .1) (p .check-lengths .ensures)
+    refused-row (c .before .of-lengths .given .0 .0) (p .check-lengths .result) (lengthsTests (length (a .parents .now)) (a .d) (a .numerators .now)) (sumsTests (a .n) (a .distances .now) (a .parents .now) (a .d) (a .numerators .now)) (c .before .of-lengths .given .1) (p .check-lengths .ensures)
 
 enum-told : tie.Need-enum-told
 enum-told c = search needs
 
-unbalanced-requires : tie.Need-unbalanced-requires
-unbalanced-requires c κs = let p = c .before .before in
+check-sums-requires : tie.Need-check-sums-requires
+check-sums-requires c κs = let p = c .before .before in
     let s = p .before .before .before in
-    (s .pre, →proper (length (s .args .parents .now)) (s .args .d) (s .args .numerators .now) (sym (p .check-lengths .ensures) ∙ ap numberOf (c .enum-told .given .1)))
+    (s .pre, →proper (length (s .args .parents .now)) (s .args .d) (s .args .numerators .now) (sym (p .check-lengths .ensures) ∙ ap answerOf (c .enum-told .given .1)))
 
 -- the lengths pass, and the sums decide
-decided : (c : tie.After-unbalanced) → let a = c .before .before .before .before .before .before .args in
-    test 14 (remaindersOut (a .n) (a .distances .now) (a .parents .now) (a .d) (a .numerators .now)) ≡ proposalNumber (a .n) (a .distances .now) (a .parents .now) (a .d) (a .numerators .now)
-decided c = let p = c .before .before .before in
-    let a = p .before .before .before .args in
-    accepted-row (p .check-lengths .result) (lengthsNumber (length (a .parents .now)) (a .d) (a .numerators .now)) (test 14 (remaindersOut (a .n) (a .distances .now) (a .parents .now) (a .d) (a .numerators .now))) (c .before .enum-told .given .1) (p .check-lengths .ensures)
-
 returns-2 : tie.Need-returns-2
-returns-2 c = ap (test 14) (sym (c .if1 .taken) ∙ c .before .unbalanced .ensures) ∙ decided (c .before)
-
-returns-3 : tie.Need-returns-3
-returns-3 c = ap (test 14) (sym (c .if1 .left) ∙ c .before .unbalanced .ensures) ∙ decided (c .before)
+returns-2 c = let p = c .before .before .before in
+    let a = p .before .before .before .args in
+    c .check-sums .ensures
+    ∙ accepted-row (p .check-lengths .result) (lengthsTests (length (a .parents .now)) (a .d) (a .numerators .now)) (sumsTests (a .n) (a .distances .now) (a .parents .now) (a .d) (a .numerators .now)) (c .before .enum-told .given .1) (p .check-lengths .ensures)
 
 pub judge-proposal-spec : {M : Type 1} → statement M
 judge-proposal-spec =
@@ -51,6 +44,5 @@ judge-proposal-spec =
     enum-known-of-lengths
     returns
     enum-told
-    unbalanced-requires
-    returns-2
-    returns-3)
+    check-sums-requires
+    returns-2)

@@ -1,7 +1,7 @@
 -- `check_posting`: the first refusal of the two answers.
 use mathlib.Core.Path.{_∙_, ap₂}
 use borrow.Author.Needs.{needs}
-use Rattle.verdict.specs.Number.{_orElse_}
+use Rattle.verdict.specs.Answer.{_orElse_}
 use Rattle.posting.proofs.check_posting.Statement.{statement}
 use Rattle.posting.proofs.check_posting.Tie as tie
 

@@ -4,13 +4,13 @@ use mathlib.Core.List.{List}
 use Prim.Native.Nat.{ℕ, _+_, _≤_}
 use native.Mathlib.Omega.{arith}
 use lib.ListN.{length, take}
-use Rattle.verdict.specs.Number.{numberOf}
+use Rattle.verdict.specs.Answer.{pass, answerOf}
 use Rattle.matrix.specs.Limits.{maxPairs}
 use Rattle.matrix.specs.Place.{pairCount}
 use Rattle.exact.specs.Table.{padded}
 use Rattle.records.proofs.Decoding.{front-there, front-length}
 use Rattle.reading.specs.Holds.{distanceAt, distancesOf, strainsOf}
-use Rattle.reading.specs.Tests.{pairNumber}
+use Rattle.reading.specs.Tests.{pairTests}
 use Rattle.reading.proofs.Formed.{Fronted, fronted, pairs-fit, distances-are, parents-start, parents-count, parents-are, pair-is}
 use Rattle.reading.proofs.Answered.{parents-few, many-strains, pair-refused, lengths-refused, all-held}
 use borrow.Author.Needs.{needs}
@@ -34,14 +34,14 @@ measured c =
     distances-are (here (n .before)) _ _ _ (n .u16-at .ensures) (c .before .pair-count .ensures) (c .distances .ensures)
 
 -- the answer to matrix and tree
-told : (c : tie.After-posted) → numberOf (c .posted .result) ≡ pairNumber (bytes (c .before .before .before .before .before .before .before .before))
+told : (c : tie.After-posted) → answerOf (c .posted .result) ≡ pairTests (bytes (c .before .before .before .before .before .before .before .before))
 told c =
     let read = c .before .before .before .before in
     let n = read .before .before .before in
     c .posted .ensures ∙ pair-is (here (n .before)) _ _ _ _ (n .u16-at .ensures) (c .before .before .before .u16-at2 .ensures) (measured read) (parents-are (here (n .before)))
 
-passed : (c : tie.After-enum-told) → pairNumber (bytes (c .before .before .before .before .before .before .before .before .before .before)) ≡ 0
-passed c = sym (told (c .before .before)) ∙ ap numberOf (c .enum-told .given .1)
+passed : (c : tie.After-enum-told) → pairTests (bytes (c .before .before .before .before .before .before .before .before .before .before)) ≡ pass
+passed c = sym (told (c .before .before)) ∙ ap answerOf (c .enum-told .given .1)
 
 u16-at-requires : tie.Need-u16-at-requires
 u16-at-requires c κs = let w = here c in omega (arith, w .matrix, w .tree, w .there)
@@ -131,7 +131,7 @@ refused-requires-3 c κs = search needs
 returns-3 : tie.Need-returns-3
 returns-3 c = let asked = c .before .before .before .before in
     let begun = asked .before .before .before .before .before .before .before .before .before .before .before .before in
-    lengths-refused _ _ _ (begun .pre .2) (passed (asked .before)) _ _ (asked .proposed-lengths .ensures .number) (c .before .before .of-lengths .given .1) (c .refused3 .ensures)
+    lengths-refused _ _ _ (begun .pre .2) (passed (asked .before)) _ _ (asked .proposed-lengths .ensures .answer) (c .before .before .of-lengths .given .1) (c .refused3 .ensures)
 
 enum-told-2 : tie.Need-enum-told-2
 enum-told-2 c = search needs
@@ -142,9 +142,9 @@ returns-4 c = let asked = c .before .before .before in
     let n = read .before .before .before in
     let start = n .before in
     let proposed = asked .proposed-lengths .ensures in
-    let z = ap numberOf (c .before .enum-told2 .given .1) in
+    let z = ap answerOf (c .before .enum-told2 .given .1) in
     let pairs : read .before .pair-count .result ≡ pairCount (strainsOf (bytes start)) = read .before .pair-count .ensures ∙ ap pairCount (n .u16-at .ensures) in
-    all-held _ _ _ (start .before .pre .2) (passed (asked .before)) _ (proposed .number) (c .before .enum-told2 .given .1) refl
+    all-held _ _ _ (start .before .pre .2) (passed (asked .before)) _ (proposed .answer) (c .before .enum-told2 .given .1) refl
     (record {
       strains = n .u16-at .ensures;
       pairs = pairs;

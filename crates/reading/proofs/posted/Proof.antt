@@ -1,7 +1,7 @@
 -- Where the two counts agree, the matrix may be asked once more before both together.
 use mathlib.Core.Path.{ap, _∙_}
-use Prim.Native.Nat.{ℕ}
-use Rattle.verdict.specs.Number.{_orElse_}
+use Rattle.verdict.specs.declared.Place.the-variants.{Nowhere}
+use Rattle.verdict.specs.Answer.{Answer, fault, _orElse_}
 use Rattle.reading.proofs.Formed.{apart, together}
 use borrow.Author.Needs.{needs}
 use Rattle.reading.proofs.posted.Statement.{statement}
@@ -15,7 +15,7 @@ or-else-requires c κs = search needs
 
 returns : tie.Need-returns
 returns c = let begun = c .before .before .before in
-    c .or-else .ensures ∙ ap (λ (m : ℕ). m orElse 8) (c .before .check-matrix .ensures)
+    c .or-else .ensures ∙ ap (λ (m : Answer). m orElse fault 8 Nowhere) (c .before .check-matrix .ensures)
     ∙ apart _ _ (begun .before .before .args .distances .now) (begun .before .before .args .parents .now) (c .before .before .if1 .taken)
 
 check-posting-requires : tie.Need-check-posting-requires

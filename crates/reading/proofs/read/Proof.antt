@@ -4,8 +4,8 @@ use mathlib.Core.List.{List}
 use Prim.Native.Nat.{ℕ}
 use native.Mathlib.Omega.{arith}
 use lib.ListN.{getD}
-use Rattle.verdict.specs.Number.{numberOf}
-use Rattle.records.specs.Form.{formNumber}
+use Rattle.verdict.specs.Answer.{pass, answerOf}
+use Rattle.records.specs.Form.{formTests}
 use Rattle.records.specs.Laid.{maxStarts}
 use Rattle.records.proofs.Decoding.{padded-before}
 use Rattle.reading.proofs.Answered.{form-refused}
@@ -34,7 +34,7 @@ element-copy-out-held-2 c = search needs
 held-requires : tie.Need-held-requires
 held-requires c κs = let laid = c .before .before .before .before in
     let begun = laid .before .before in
-    let z : formNumber (begun .args .count) (begun .args .s .now) ≡ 0 = sym (laid .records .ensures .number) ∙ ap numberOf (c .before .before .enum-told .given .1) in
+    let z : formTests (begun .args .count) (begun .args .s .now) ≡ pass = sym (laid .records .ensures .answer) ∙ ap answerOf (c .before .before .enum-told .given .1) in
     let at = laid .records .ensures .starts z in (
       begun .pre .0,
       begun .pre .1,
@@ -44,7 +44,7 @@ held-requires c κs = let laid = c .before .before .before .before in
     )
 
 returns : tie.Need-returns
-returns c = form-refused _ _ _ _ _ (c .before .before .before .before .records .ensures .number) (c .before .before .of-form .given .1) (c .refused .ensures)
+returns c = form-refused _ _ _ _ _ (c .before .before .before .before .records .ensures .answer) (c .before .before .of-form .given .1) (c .refused .ensures)
 
 returns-2 : tie.Need-returns-2
 returns-2 c = search needs

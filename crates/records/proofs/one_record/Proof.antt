@@ -1,8 +1,9 @@
--- Each answer is the number of its test.
+-- Each answer is that of its test.
 use mathlib.Core.Path.{_≡_, sym, _∙_}
 use mathlib.Core.Bool.{Bool, true, false}
-use Rattle.verdict.specs.Number.{test}
-use Rattle.records.specs.Form.{countsOut, recordNumber}
+use Rattle.verdict.specs.declared.Place.the-variants.{Byte}
+use Rattle.verdict.specs.Answer.{testAt}
+use Rattle.records.specs.Form.{countsOut, recordTests}
 use native.Mathlib.Omega.{arith}
 use Rattle.records.proofs.InTurn.{head-cut, body-cut, wrong-kind, by-counts}
 use borrow.Author.Needs.{needs}
@@ -12,7 +13,7 @@ use Rattle.records.proofs.one_record.Tie as tie
 -- past the head, the counts decide
 counted : (c : tie.After-counts-out) (out : Bool)
     → let begun = c .before .before .before .before .before .before .before in
-    countsOut (begun .args .s .now) (begun .args .at) (begun .args .kind) ≡ out → test 4 out ≡ recordNumber (begun .args .s .now) (begun .args .at) (begun .args .kind)
+    countsOut (begun .args .s .now) (begun .args .at) (begun .args .kind) ≡ out → testAt 4 (Byte (begun .args .at)) out ≡ recordTests (begun .args .s .now) (begun .args .at) (begun .args .kind)
 counted c out e =
     let begun = c .before .before .before .before .before .before .before in
     by-counts (begun .args .s .now) (begun .args .at) _ (omega arith) (omega arith) (sym (c .before .before .u16-at .ensures) ∙ c .before .if3 .left) out e

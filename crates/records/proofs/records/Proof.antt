@@ -1,8 +1,8 @@
 -- The records in turn: `Past` is what each turn keeps.
 use mathlib.Core.Path.{_≡_, refl, sym, ap, ap₂, _∙_}
 use lib.ListN.{length}
-use Rattle.verdict.specs.Number.{numberOf}
-use Rattle.records.specs.Form.{endAt, recordNumber}
+use Rattle.verdict.specs.Answer.{pass, answerOf}
+use Rattle.records.specs.Form.{endAt, recordTests}
 use native.Mathlib.Omega.{arith}
 use Prim.Native.Nat.{_+_, _-_, _≤_}
 use borrow.Author.Needs.{needs}
@@ -19,8 +19,8 @@ abbrev μ-loop : tie.MeasureT-loop
 -- the record at hand passes
 passed : (c : tie.After-enum-told Inv-loop μ-loop)
     → let turn = c .before .before .before .before in
-    recordNumber (turn .before .before .before .before .before .args .s .now) (turn .before .loop .at) (c .before .before .before .kind-of .result) ≡ 0
-passed c = sym (c .before .before .one-record .ensures) ∙ ap numberOf (c .enum-told .given .1)
+    recordTests (turn .before .before .before .before .before .args .s .now) (turn .before .loop .at) (c .before .before .before .kind-of .result) ≡ pass
+passed c = sym (c .before .before .one-record .ensures) ∙ ap answerOf (c .enum-told .given .1)
 
 there : (c : tie.After-enum-told Inv-loop μ-loop)
     → let turn = c .before .before .before .before in

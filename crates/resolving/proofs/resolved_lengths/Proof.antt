@@ -1,6 +1,7 @@
 -- `resolved_lengths`: the number and the buffers of `fit_resolved`.
-use mathlib.Core.Path.{_∙_}
+use mathlib.Core.Path.{_∙_, ap}
 use borrow.Author.Needs.{needs}
+use Rattle.verdict.specs.Answer.{number}
 use Rattle.resolving.proofs.resolved_lengths.Statement.{statement}
 use Rattle.resolving.proofs.resolved_lengths.Tie as tie
 
@@ -21,7 +22,7 @@ same-length-3 c = search needs
 
 returns : tie.Need-returns
 returns c = let e = c .before .before .before .before .before .fit-resolved .ensures in record {
-  number = c .number .ensures ∙ e .number;
+  number = c .number .ensures ∙ ap number (e .answer);
   tops = λ z. e .fit z .tops;
   bottoms = λ z. e .fit z .bottoms;
   rounded = λ z. e .fit z .rounded;

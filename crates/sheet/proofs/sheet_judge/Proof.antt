@@ -1,9 +1,9 @@
 -- `sheet_judge`: a refusal of the reader is the sheet's; what it accepts is judged.
 use mathlib.Core.Path.{_≡_, sym, _∙_}
 use native.Mathlib.Omega.{arith}
-use Rattle.verdict.specs.Number.{numberOf}
+use Rattle.verdict.specs.Answer.{answerOf}
 use Rattle.fit.specs.Stands.{Posted}
-use Rattle.fit.specs.Tests.{proposalNumber}
+use Rattle.fit.specs.Tests.{proposalTests}
 use Rattle.reading.proofs.Parts.{Parts, Lengths, accepted, read-parts, read-lengths, of-lengths, to-parts}
 use Rattle.reading.proofs.Whole.{sheet-asked, refused-whole}
 use borrow.Author.Needs.{needs}
@@ -56,7 +56,7 @@ judge-proposal-requires c κs = let h = held (c .before .before .before .before 
 returns-2 : tie.Need-returns-2
 returns-2 c = let told = c .before .before .before .before .before .before in
     let r = told .before .before in
-    of-lengths (held told) (proposed told) (λ n ds ps d ns. numberOf (c .judge-proposal .result) ≡ proposalNumber n ds ps d ns) (c .judge-proposal .ensures)
+    of-lengths (held told) (proposed told) (λ n ds ps d ns. answerOf (c .judge-proposal .result) ≡ proposalTests n ds ps d ns) (c .judge-proposal .ensures)
     ∙ sym (sheet-asked (r .before .before .args .s .now) (accepted 3 _ (r .read .result) (r .read .ensures) (told .enum-told .given .1)))
 
 pub sheet-judge-spec : {M : Type 1} → statement M

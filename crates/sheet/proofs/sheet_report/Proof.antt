@@ -1,7 +1,7 @@
 -- `sheet_report`: a refusal of the reader is the sheet's; what it accepts is reported, with the two tables.
 use mathlib.Core.Path.{_≡_, sym, _∙_, ap}
 use native.Mathlib.Omega.{arith}
-use Rattle.verdict.specs.Number.{numberOf}
+use Rattle.verdict.specs.Answer.{answerOf}
 use Rattle.fit.specs.Stands.{Posted}
 use Rattle.reading.proofs.Parts.{Parts, Lengths, read-parts, read-lengths, to-parts}
 use Rattle.reading.proofs.Whole.{refused-whole}
@@ -85,7 +85,7 @@ returns-2 c = let found = c .before .before in
     let told = done .before .before .before .before .before .before .before .before in
     let r = told .before .before in
     refused-sheet _ (c .unfitted2 .result) (found .found .given .0 .0) (c .unfitted2 .ensures .0) (c .unfitted2 .ensures .1)
-    (sym (ap numberOf (found .found .given .1)) ∙ asked _ (r .read .result) (r .read .ensures) (told .enum-told .given .1) _ (done .before .before .before .before .before .no-lengths .ensures) _ (done .report-proposal .result) (done .report-proposal .ensures))
+    (sym (ap answerOf (found .found .given .1)) ∙ asked _ (r .read .result) (r .read .ensures) (told .enum-told .given .1) _ (done .before .before .before .before .before .no-lengths .ensures) _ (done .report-proposal .result) (done .report-proposal .ensures))
 
 returns-3 : tie.Need-returns-3
 returns-3 c = let done = c .before .before .before in

@@ -1,8 +1,8 @@
 -- `path_lengths`: the tests by their answers, the buffer last, then each pair's path.
 use mathlib.Core.Path.{_≡_, sym, _∙_, ap₂}
-use Rattle.verdict.specs.Number.{numberOf, _orElse_}
-use Rattle.trees.specs.Tests.{treeNumber}
-use Rattle.lengths.specs.Tests.{lengthsNumber}
+use Rattle.verdict.specs.Answer.{answerOf, _orElse_}
+use Rattle.trees.specs.Tests.{treeTests}
+use Rattle.lengths.specs.Tests.{lengthsTests}
 use lib.ListN.{length}
 use Rattle.pairs.proofs.Lent.{standing, small}
 use Rattle.tables.proofs.Lent.{paths-refused, paths-allowed, paths-proper, paths-buffer, paths-filled}
@@ -12,7 +12,7 @@ use Rattle.tables.proofs.path_lengths.Tie as tie
 
 -- the two answers' number
 asked : (c : tie.After-or-else) → let a = c .before .before .before .before .args in
-    numberOf (c .or-else .result) ≡ (treeNumber (a .n) (a .parents .now) orElse lengthsNumber (length (a .parents .now)) (a .d) (a .numerators .now))
+    answerOf (c .or-else .result) ≡ (treeTests (a .n) (a .parents .now) orElse lengthsTests (length (a .parents .now)) (a .d) (a .numerators .now))
 asked c = c .or-else .ensures ∙ ap₂ _orElse_ (c .before .before .check-tree .ensures) (c .before .check-lengths .ensures)
 
 check-tree-requires : tie.Need-check-tree-requires

@@ -2,9 +2,9 @@
 use mathlib.Core.Path.{sym, _∙_, ap}
 use Prim.Native.Nat.{_-_, _≤_}
 use lib.IntN.{pos}
-use Rattle.verdict.specs.Number.{numberOf, test}
+use Rattle.verdict.specs.Answer.{answerOf}
 use Rattle.trees.specs.Limits.{maxEdges}
-use Rattle.resolution.specs.Tests.{unresolved}
+use Rattle.resolution.specs.Tests.{degreeTests}
 use Rattle.reading.proofs.Parts.{Parts}
 use Rattle.reading.proofs.Whole.{refused-two}
 use Rattle.reading.specs.Holds.{strainsOf, parentsOf}
@@ -42,7 +42,7 @@ returns c =
     let r = c .before .before .before .before in
     let q = c .before .before .of-reader .given .0 .0 in
     refused-sheet _ (c .refused .result) q (c .refused .ensures .0) (c .refused .ensures .1)
-    (refused-two _ (r .read .result) q (test 25 (unresolved (strainsOf _) (parentsOf _))) (r .read .ensures) (c .before .before .of-reader .given .1))
+    (refused-two _ (r .read .result) q (degreeTests (strainsOf _) (parentsOf _)) (r .read .ensures) (c .before .before .of-reader .given .1))
 
 enum-told : tie.Need-enum-told
 enum-told c = search needs
@@ -72,7 +72,7 @@ returns-2 c =
     let r = told .before .before in
     let q = c .before .before .of-tree .given in
     refused-sheet _ (c .refused2 .result) (q .0 .0) (c .refused2 .ensures .0) (c .refused2 .ensures .1)
-    (sym (ap numberOf (q .1)) ∙ degrees-asked _ (r .read .result) (r .read .ensures) (told .enum-told .given .1) (done .check-resolved .result) (done .check-resolved .ensures))
+    (sym (ap answerOf (q .1)) ∙ degrees-asked _ (r .read .result) (r .read .ensures) (told .enum-told .given .1) (done .check-resolved .result) (done .check-resolved .ensures))
 
 enum-told-2 : tie.Need-enum-told-2
 enum-told-2 c = search needs

@@ -1,8 +1,6 @@
--- A refusal comes first, since its number is not 0.
-use mathlib.Core.Path.{_≡_, sym, _∙_, ap}
-use Prim.Native.Nat.{ℕ}
-use Rattle.verdict.specs.Number.{numberOf, _orElse_}
-use Rattle.verdict.proofs.Answers.{first-refusal}
+-- A refusal comes first.
+use mathlib.Core.Path.{_≡_, sym, ap}
+use Rattle.verdict.specs.Answer.{Answer, answerOf, _orElse_}
 use borrow.Author.Needs.{needs}
 use Rattle.verdict.proofs.or_else.Statement.{statement}
 use Rattle.verdict.proofs.or_else.Tie as tie
@@ -17,10 +15,7 @@ returns : tie.Need-returns
 returns c = search needs
 
 returns-2 : tie.Need-returns-2
-returns-2 c =
-    let e = ap numberOf (c .before .a .given .1) in
-    sym (first-refusal (c .before .a .given .0 .0) (numberOf (c .before .before .before .args .b)))
-    ∙ ap (λ (k : ℕ). k orElse numberOf (c .before .before .before .args .b)) (sym e)
+returns-2 c = ap (λ (a : Answer). a orElse answerOf (c .before .before .before .args .b)) (sym (ap answerOf (c .before .a .given .1)))
 
 pub or-else-spec : {M : Type 1} → statement M
 or-else-spec = tie.close (tie.spec enum-told enum-known-a returns returns-2)

@@ -2,9 +2,9 @@
 use mathlib.Core.Path.{_≡_, refl, sym, _∙_, ap}
 use native.Mathlib.Omega.{arith}
 use borrow.Author.Needs.{needs}
-use Rattle.verdict.specs.Number.{numberOf}
-use Rattle.verdict.proofs.Answers.{not-zero}
-use Rattle.lengths.specs.Tests.{lengthsNumber}
+use Rattle.verdict.specs.Answer.{pass, answerOf}
+use Rattle.verdict.proofs.Answers.{not-pass}
+use Rattle.lengths.specs.Tests.{lengthsTests}
 use Rattle.lengths.proofs.Checked.{→proper}
 use Rattle.lengths.proofs.Lengths.new.Statement.{statement}
 use Rattle.lengths.proofs.Lengths.new.Tie as tie
@@ -18,7 +18,7 @@ enum-told c = search needs
 copied-requires : tie.Need-copied-requires
 copied-requires c κs =
     let s = c .before .before .before in
-    let p = →proper (s .args .edges) (s .args .d) (s .args .numerators .now) (sym (c .before .before .check-lengths .ensures) ∙ ap numberOf (c .enum-told .given .1)) in
+    let p = →proper (s .args .edges) (s .args .d) (s .args .numerators .now) (sym (c .before .before .check-lengths .ensures) ∙ ap answerOf (c .enum-told .given .1)) in
     omega (arith, p .whole, p .few)
 
 enum-known-reason : tie.Need-enum-known-reason
@@ -30,17 +30,17 @@ no-lengths-requires c κs = search needs
 returns : tie.Need-returns
 returns c =
     let s = c .before .before .before .before in
-    let e : 0 ≡ lengthsNumber (s .args .edges) (s .args .d) (s .args .numerators .now) = sym (ap numberOf (c .before .enum-told .given .1)) ∙ c .before .before .before .check-lengths .ensures in
+    let e : pass ≡ lengthsTests (s .args .edges) (s .args .d) (s .args .numerators .now) = sym (ap answerOf (c .before .enum-told .given .1)) ∙ c .before .before .before .check-lengths .ensures in
     record {
-      number = e;
+      answer = e;
       kept = λ z. record { denominator = refl; edges = sym (→proper (s .args .edges) (s .args .d) (s .args .numerators .now) z .whole); numerators = c .copied .ensures };
       blank = λ n. absurd (n (sym e));
     }
 
 returns-2 : tie.Need-returns-2
 returns-2 c =
-    let e = sym (ap numberOf (c .before .before .reason .given .1)) ∙ c .before .before .before .before .check-lengths .ensures in
-    record { number = e; kept = λ z. absurd (not-zero (c .before .before .reason .given .0 .0) (e ∙ z)); blank = λ _. record { denominator = refl; edges = refl; numerators = c .no-lengths .ensures } }
+    let e = sym (ap answerOf (c .before .before .reason .given .1)) ∙ c .before .before .before .before .check-lengths .ensures in
+    record { answer = e; kept = λ z. absurd (not-pass (c .before .before .reason .given .0 .0) (e ∙ z)); blank = λ _. record { denominator = refl; edges = refl; numerators = c .no-lengths .ensures } }
 
 pub new-spec : {M : Type 1} → statement M
 new-spec = tie.close (tie.spec check-lengths-requires enum-told copied-requires enum-known-reason no-lengths-requires returns returns-2)

@@ -2,9 +2,9 @@
 use mathlib.Core.Path.{_≡_, refl, sym, _∙_, ap}
 use native.Mathlib.Omega.{arith}
 use borrow.Author.Needs.{needs}
-use Rattle.verdict.specs.Number.{numberOf}
-use Rattle.verdict.proofs.Answers.{not-zero}
-use Rattle.matrix.specs.Tests.{matrixNumber}
+use Rattle.verdict.specs.Answer.{pass, answerOf}
+use Rattle.verdict.proofs.Answers.{not-pass}
+use Rattle.matrix.specs.Tests.{matrixTests}
 use Rattle.matrix.specs.Proper.{Proper}
 use Rattle.matrix.proofs.Places.{pairs-few}
 use Rattle.matrix.proofs.Checked.{→proper}
@@ -20,7 +20,7 @@ enum-told c = search needs
 copied-requires : tie.Need-copied-requires
 copied-requires c κs =
     let s = c .before .before .before .before in
-    let p = →proper (s .args .n) (s .args .distances .now) (sym (c .before .before .check-matrix .ensures) ∙ ap numberOf (c .enum-told .given .1)) in
+    let p = →proper (s .args .n) (s .args .distances .now) (sym (c .before .before .check-matrix .ensures) ∙ ap answerOf (c .enum-told .given .1)) in
     omega (arith, p .whole, pairs-few (s .args .n) (p .few))
 
 enum-known-reason : tie.Need-enum-known-reason
@@ -32,13 +32,13 @@ zeros-requires c κs = search needs
 returns : tie.Need-returns
 returns c =
     let s = c .before .before .before .before .before in
-    let e : 0 ≡ matrixNumber (s .args .n) (s .args .distances .now) = sym (ap numberOf (c .before .enum-told .given .1)) ∙ c .before .before .before .check-matrix .ensures in
-    record { number = e; kept = λ _. record { strains = refl; distances = c .copied .ensures }; blank = λ n. absurd (n (sym e)) }
+    let e : pass ≡ matrixTests (s .args .n) (s .args .distances .now) = sym (ap answerOf (c .before .enum-told .given .1)) ∙ c .before .before .before .check-matrix .ensures in
+    record { answer = e; kept = λ _. record { strains = refl; distances = c .copied .ensures }; blank = λ n. absurd (n (sym e)) }
 
 returns-2 : tie.Need-returns-2
 returns-2 c =
-    let e = sym (ap numberOf (c .before .before .reason .given .1)) ∙ c .before .before .before .before .check-matrix .ensures in
-    record { number = e; kept = λ z. absurd (not-zero (c .before .before .reason .given .0 .0) (e ∙ z)); blank = λ _. record { strains = refl; distances = c .zeros .ensures } }
+    let e = sym (ap answerOf (c .before .before .reason .given .1)) ∙ c .before .before .before .before .check-matrix .ensures in
+    record { answer = e; kept = λ z. absurd (not-pass (c .before .before .reason .given .0 .0) (e ∙ z)); blank = λ _. record { strains = refl; distances = c .zeros .ensures } }
 
 pub new-spec : {M : Type 1} → statement M
 new-spec = tie.close (tie.spec check-matrix-requires enum-told copied-requires enum-known-reason zeros-requires returns returns-2)

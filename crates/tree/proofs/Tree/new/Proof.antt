@@ -2,9 +2,9 @@
 use mathlib.Core.Path.{_≡_, refl, sym, _∙_, ap}
 use native.Mathlib.Omega.{arith}
 use borrow.Author.Needs.{needs}
-use Rattle.verdict.specs.Number.{numberOf}
-use Rattle.verdict.proofs.Answers.{not-zero}
-use Rattle.trees.specs.Tests.{treeNumber}
+use Rattle.verdict.specs.Answer.{pass, answerOf}
+use Rattle.verdict.proofs.Answers.{not-pass}
+use Rattle.trees.specs.Tests.{treeTests}
 use Rattle.trees.proofs.Checked.{allowed→}
 use Rattle.tree.proofs.Tree.new.Statement.{statement}
 use Rattle.tree.proofs.Tree.new.Tie as tie
@@ -18,7 +18,7 @@ enum-told c = search needs
 copied-requires : tie.Need-copied-requires
 copied-requires c κs =
     let s = c .before .before .before .before in
-    let a = allowed→ (s .args .n) (s .args .parents .now) (sym (c .before .before .check-tree .ensures) ∙ ap numberOf (c .enum-told .given .1)) in
+    let a = allowed→ (s .args .n) (s .args .parents .now) (sym (c .before .before .check-tree .ensures) ∙ ap answerOf (c .enum-told .given .1)) in
     omega (arith, a .few, a .most)
 
 enum-known-reason : tie.Need-enum-known-reason
@@ -30,13 +30,13 @@ no-parents-requires c κs = search needs
 returns : tie.Need-returns
 returns c =
     let s = c .before .before .before .before .before in
-    let e : 0 ≡ treeNumber (s .args .n) (s .args .parents .now) = sym (ap numberOf (c .before .enum-told .given .1)) ∙ c .before .before .before .check-tree .ensures in
-    record { number = e; kept = λ _. record { strains = refl; size = refl; parents = c .copied .ensures }; blank = λ n. absurd (n (sym e)) }
+    let e : pass ≡ treeTests (s .args .n) (s .args .parents .now) = sym (ap answerOf (c .before .enum-told .given .1)) ∙ c .before .before .before .check-tree .ensures in
+    record { answer = e; kept = λ _. record { strains = refl; size = refl; parents = c .copied .ensures }; blank = λ n. absurd (n (sym e)) }
 
 returns-2 : tie.Need-returns-2
 returns-2 c =
-    let e = sym (ap numberOf (c .before .before .reason .given .1)) ∙ c .before .before .before .before .check-tree .ensures in
-    record { number = e; kept = λ z. absurd (not-zero (c .before .before .reason .given .0 .0) (e ∙ z)); blank = λ _. record { strains = refl; size = refl; parents = c .no-parents .ensures } }
+    let e = sym (ap answerOf (c .before .before .reason .given .1)) ∙ c .before .before .before .before .check-tree .ensures in
+    record { answer = e; kept = λ z. absurd (not-pass (c .before .before .reason .given .0 .0) (e ∙ z)); blank = λ _. record { strains = refl; size = refl; parents = c .no-parents .ensures } }
 
 pub new-spec : {M : Type 1} → statement M
 new-spec = tie.close (tie.spec check-tree-requires enum-told copied-requires enum-known-reason no-parents-requires returns returns-2)

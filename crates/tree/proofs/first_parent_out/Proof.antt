@@ -1,4 +1,4 @@
--- `some_parent_out`: while the loop runs, no parent met so far is at fault.
+-- `first_parent_out`: while the loop runs, no parent met so far is at fault.
 use mathlib.Core.Path.{_≡_, sym}
 use mathlib.Core.Bool.{false}
 use Prim.Native.Nat.{ℕ, _≤_, _<_, _-_}
@@ -6,12 +6,12 @@ use native.Mathlib.Omega.{arith}
 use borrow.Author.Needs.{needs}
 use borrow.Author.Count.{below-none, below-more}
 use lib.ListN.{length}
-use Rattle.verdict.proofs.Table.{some-yes, some-no}
+use Rattle.verdict.proofs.Table.{first-is, past-first}
 use Rattle.trees.specs.Chain.{parentOf}
 use Rattle.trees.specs.Tests.{parentOut}
 use Rattle.trees.proofs.Faults.{not-above, at-strain, past-root, parent-in}
-use Rattle.tree.proofs.some_parent_out.Statement.{statement}
-use Rattle.tree.proofs.some_parent_out.Tie as tie
+use Rattle.tree.proofs.first_parent_out.Statement.{statement}
+use Rattle.tree.proofs.first_parent_out.Tie as tie
 
 abbrev Inv-loop : tie.InvT-loop
 Inv-loop n parents edges v₀ v =
@@ -34,21 +34,21 @@ returns c =
     let ps = c .before .before .before .before .args .parents .now in
     let n = c .before .before .before .before .args .n in
     let v = c .before .before .before .loop .v in
-    sym (some-yes (length ps) _ v (omega arith) (not-above n (length ps) (parentOf ps) v (c .if1 .taken)))
+    sym (first-is (length ps) _ v (omega arith) (not-above n (length ps) (parentOf ps) v (c .if1 .taken)) (c .before .before .before .loop .inv .1))
 
 returns-2 : tie.Need-returns-2 Inv-loop μ-loop
 returns-2 c =
     let ps = c .before .before .before .before .before .args .parents .now in
     let n = c .before .before .before .before .before .args .n in
     let v = c .before .before .before .before .loop .v in
-    sym (some-yes (length ps) _ v (omega arith) (at-strain n (length ps) (parentOf ps) v (c .if2 .taken)))
+    sym (first-is (length ps) _ v (omega arith) (at-strain n (length ps) (parentOf ps) v (c .if2 .taken)) (c .before .before .before .before .loop .inv .1))
 
 returns-3 : tie.Need-returns-3 Inv-loop μ-loop
 returns-3 c =
     let ps = c .before .before .before .before .before .before .args .parents .now in
     let n = c .before .before .before .before .before .before .args .n in
     let v = c .before .before .before .before .before .loop .v in
-    sym (some-yes (length ps) _ v (omega arith) (past-root n (length ps) (parentOf ps) v (c .if3 .taken)))
+    sym (first-is (length ps) _ v (omega arith) (past-root n (length ps) (parentOf ps) v (c .if3 .taken)) (c .before .before .before .before .before .loop .inv .1))
 
 add-v : tie.Need-add-v Inv-loop μ-loop
 add-v c = search needs
@@ -65,10 +65,10 @@ loop-again c =
 
 returns-4 : tie.Need-returns-4 Inv-loop μ-loop
 returns-4 c =
-    sym (some-no _ _ (λ i l. c .before .loop .inv .1 i (omega arith)))
+    sym (past-first _ _ (λ i l. c .before .loop .inv .1 i (omega arith)))
 
-pub some-parent-out-spec : {M : Type 1} → statement M
-some-parent-out-spec =
+pub first-parent-out-spec : {M : Type 1} → statement M
+first-parent-out-spec =
     tie.close
     (tie.spec
     Inv-loop

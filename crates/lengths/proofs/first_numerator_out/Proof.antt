@@ -1,7 +1,7 @@
 -- No numerator passed so far is beyond its range.
 use borrow.Author.Needs.{needs}
 use Prim.Native.Nat.{ℕ, _≤_, _<_, _-_}
-use mathlib.Core.Path.{_≡_, sym}
+use mathlib.Core.Path.{_≡_, sym, _∙_}
 use mathlib.Core.Bool.{false}
 use native.Mathlib.Omega.{arith}
 use borrow.Author.Count.{below-none, below-more}
@@ -12,12 +12,13 @@ use mir.Val.{toZ, ofZ}
 use mir.Facts.{toZ-ofZ}
 use lib.IntN.{pos, natAbs}
 use lib.ListN.{length, getD}
-use Rattle.verdict.proofs.Table.{some-yes, some-no}
+use Rattle.verdict.proofs.Table.{first-is, past-first}
 use Rattle.lengths.specs.Limits.{maxNumerator}
-use Rattle.lengths.proofs.some_numerator_out.Statement.{statement}
-use Rattle.lengths.proofs.some_numerator_out.Tie as tie
-use Rattle.lengths.proofs.some_numerator_out.Reads as reads
-use Rattle.lengths.proofs.some_numerator_out.Lts as lts
+use Rattle.lengths.specs.Tests.{numeratorOut}
+use Rattle.lengths.proofs.first_numerator_out.Statement.{statement}
+use Rattle.lengths.proofs.first_numerator_out.Tie as tie
+use Rattle.lengths.proofs.first_numerator_out.Reads as reads
+use Rattle.lengths.proofs.first_numerator_out.Lts as lts
 use Rattle.arithmetic.proofs.magnitude.Reads as magnitude-reads
 
 abbrev Inv-loop : tie.InvT-loop
@@ -49,7 +50,7 @@ magnitude-requires c κs = search needs
 
 returns : tie.Need-returns Inv-loop μ-loop
 returns c =
-    sym (some-yes _ _ (c .before .before .before .before .loop .v) (omega arith) (lt-ltb _ _ (rw (size (c .before)) at (c .if1 .taken))))
+    sym (first-is _ _ (c .before .before .before .before .loop .v) (omega arith) (lt-ltb _ _ (rw (size (c .before)) at (c .if1 .taken))) (c .before .before .before .before .loop .inv .1))
 
 add-v : tie.Need-add-v Inv-loop μ-loop
 add-v c = search needs
@@ -62,10 +63,13 @@ loop-again c =
     (omega arith, below-more _ _ (c .before .before .before .before .loop .inv .1) (le-ltb _ _ (rw (size (c .before)) at (c .if1 .left))))
 
 returns-2 : tie.Need-returns-2 Inv-loop μ-loop
-returns-2 c = sym (some-no _ _ (λ i h. c .before .loop .inv .1 i (omega arith)))
+returns-2 c =
+    let ns = c .before .before .args .numerators .now in
+    let e : c .before .loop .v ≡ length ns = omega arith in
+    e ∙ sym (past-first (length ns) (numeratorOut ns) (λ i h. c .before .loop .inv .1 i (omega arith)))
 
-pub some-numerator-out-spec : {M : Type 1} → statement M
-some-numerator-out-spec =
+pub first-numerator-out-spec : {M : Type 1} → statement M
+first-numerator-out-spec =
     tie.close
     (tie.spec
     Inv-loop

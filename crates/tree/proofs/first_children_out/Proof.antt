@@ -1,4 +1,4 @@
--- `some_children_out`: while the loop runs, no vertex met so far is out; strains are not asked, and the root is tested last.
+-- `first_children_out`: while the loop runs, no vertex met so far is out; strains are not asked, and the root is tested last.
 use mathlib.Core.Path.{_≡_, sym, _∙_, ap₂}
 use mathlib.Core.Bool.{Bool, true, false, _||_}
 use Prim.Native.Nat.{ℕ, _≤_, _<_, _-_, _+_}
@@ -7,19 +7,13 @@ use borrow.Author.Needs.{needs}
 use borrow.Author.Count.{below-more}
 use lib.Dec.{ltb}
 use lib.ListN.{length, getD}
-use Rattle.verdict.specs.Table.{some}
-use Rattle.verdict.proofs.Table.{some-yes, some-no}
+use Rattle.verdict.proofs.Table.{first-is, past-first}
 use Rattle.trees.specs.Chain.{parentOf}
 use Rattle.trees.specs.Allowed.{children}
 use Rattle.trees.specs.Tests.{childrenOut}
 use Rattle.trees.proofs.Faults.{strain-passes, inner-asked, root-asked}
-use Rattle.tree.proofs.some_children_out.Statement.{statement}
-use Rattle.tree.proofs.some_children_out.Tie as tie
-
--- where none before the last is out, the last decides
-last-decides : (n : ℕ) (p : ℕ → Bool) (b : Bool) → ((i : ℕ) → i < n → p i ≡ false) → b ≡ p n → b ≡ some (n + 1) p
-last-decides n p true h e = sym (some-yes (n + 1) p n (omega arith) (sym e))
-last-decides n p false h e = sym (some-no (n + 1) p (below-more _ n h (sym e)))
+use Rattle.tree.proofs.first_children_out.Statement.{statement}
+use Rattle.tree.proofs.first_children_out.Tie as tie
 
 -- a count read from the table is the vertex's
 read : (b : Bool) (count K : ℕ) (par : ℕ → ℕ) (w least spare : ℕ) → b ≡ (ltb count least || ltb (least + spare) count) → count ≡ children K par w
@@ -56,7 +50,7 @@ asked c = let l = c .before .before in
 returns : tie.Need-returns Inv-loop μ-loop
 returns c = let t = c .before in
     let l = t .before .before in
-    sym (some-yes _ _ (l .loop .w) (omega arith) (sym (asked t) ∙ c .if1 .taken))
+    sym (first-is _ _ (l .loop .w) (omega arith) (sym (asked t) ∙ c .if1 .taken) (l .loop .inv .2))
 
 add-w : tie.Need-add-w Inv-loop μ-loop
 add-w c = search needs
@@ -73,16 +67,28 @@ array-read-count-out-2 c = search needs
 count-out-requires-2 : tie.Need-count-out-requires-2 Inv-loop μ-loop
 count-out-requires-2 c κs = search needs
 
-returns-2 : tie.Need-returns-2 Inv-loop μ-loop
-returns-2 c = let l = c .before .before in
+-- what the test of the root says
+asked-root : (c : tie.After-count-out2 Inv-loop μ-loop) → let a = c .before .before .before .before .before .args in
+    c .count-out2 .result ≡ childrenOut (a .spare) (a .n) (length (a .parents .now)) (parentOf (a .parents .now)) (length (a .parents .now))
+asked-root c = let l = c .before .before in
     let s = l .before .before .before in
     let K = length (s .args .parents .now) in
     let par = parentOf (s .args .parents .now) in
-    last-decides K _ (c .count-out2 .result) (λ i h. l .loop .inv .2 i (omega arith))
-    (read (c .count-out2 .result) _ K par K 3 (s .args .spare) (c .count-out2 .ensures) (l .before .child-counts .ensures K) ∙ sym (root-asked (s .args .spare) (s .args .n) K par (s .pre .0 .0)))
+    read (c .count-out2 .result) _ K par K 3 (s .args .spare) (c .count-out2 .ensures) (l .before .child-counts .ensures K) ∙ sym (root-asked (s .args .spare) (s .args .n) K par (s .pre .0 .0))
 
-pub some-children-out-spec : {M : Type 1} → statement M
-some-children-out-spec =
+returns-2 : tie.Need-returns-2 Inv-loop μ-loop
+returns-2 c = let l = c .before .before .before in
+    sym (first-is _ _ _ (omega arith) (sym (asked-root (c .before)) ∙ c .if2 .taken) (λ i h. l .loop .inv .2 i (omega arith)))
+
+add-result : tie.Need-add-result Inv-loop μ-loop
+add-result c = search needs
+
+returns-3 : tie.Need-returns-3 Inv-loop μ-loop
+returns-3 c = let l = c .before .before .before in
+    sym (past-first _ _ (below-more _ _ (λ i h. l .loop .inv .2 i (omega arith)) (sym (asked-root (c .before)) ∙ c .if2 .left)))
+
+pub first-children-out-spec : {M : Type 1} → statement M
+first-children-out-spec =
     tie.close
     (tie.spec
     Inv-loop
@@ -97,4 +103,6 @@ some-children-out-spec =
     loop-again
     array-read-count-out-2
     count-out-requires-2
-    returns-2)
+    returns-2
+    add-result
+    returns-3)

@@ -2,8 +2,8 @@
 use Rattle.prints.proofs.Texts.{small-page}
 use Rattle.prints.proofs.Sheets.{few-edges, shows-sheet}
 use borrow.Author.Needs.{needs}
-use Rattle.prints.proofs.sheet_text.Statement.{statement}
-use Rattle.prints.proofs.sheet_text.Tie as tie
+use Rattle.prints.proofs.sheet_print.Statement.{statement}
+use Rattle.prints.proofs.sheet_print.Tie as tie
 
 returns : tie.Need-returns
 returns c = small-page _ _ (c .if1 .taken)
@@ -20,6 +20,6 @@ same-length c = search needs
 returns-2 : tie.Need-returns-2
 returns-2 c = let r = c .before .before .before .before in shows-sheet _ (r .sheet-report .result) (r .sheet-report .ensures) _ _ _ (r .before .if1 .left) (c .before .before .report-text .ensures)
 
-pub sheet-text-spec : {M : Type 1} → statement M
-sheet-text-spec =
+pub sheet-print-spec : {M : Type 1} → statement M
+sheet-print-spec =
     tie.close (tie.spec returns sheet-report-requires report-text-requires same-length returns-2)

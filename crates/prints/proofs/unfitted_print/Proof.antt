@@ -2,8 +2,8 @@
 use Rattle.prints.proofs.Texts.{small-page}
 use Rattle.prints.proofs.Unfitted.{few-edges, shows-unfitted}
 use borrow.Author.Needs.{needs}
-use Rattle.prints.proofs.unfitted_text.Statement.{statement}
-use Rattle.prints.proofs.unfitted_text.Tie as tie
+use Rattle.prints.proofs.unfitted_print.Statement.{statement}
+use Rattle.prints.proofs.unfitted_print.Tie as tie
 
 returns : tie.Need-returns
 returns c = small-page _ _ (c .if1 .taken)
@@ -20,6 +20,6 @@ same-length c = search needs
 returns-2 : tie.Need-returns-2
 returns-2 c = let r = c .before .before .before .before in shows-unfitted _ (r .unfitted-fit .result) (r .unfitted-fit .ensures) _ _ _ (r .before .if1 .left) (c .before .before .direct-text .ensures)
 
-pub unfitted-text-spec : {M : Type 1} → statement M
-unfitted-text-spec =
+pub unfitted-print-spec : {M : Type 1} → statement M
+unfitted-print-spec =
     tie.close (tie.spec returns unfitted-fit-requires direct-text-requires same-length returns-2)
