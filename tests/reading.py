@@ -127,12 +127,14 @@ class Report:
             self.f += d * (denominator * d - path(below, numerators, i, j))
             self.r += (1000 * d - path(below, self.rounded, i, j)) ** 2
             self.h += path(below, [1] * len(parents), i, j) ** 2
-        self.mean = (self.f, denominator * len(pairs))
+        # pairs less edges; with none left there is nothing to divide by
+        spare = len(pairs) - len(parents)
+        self.mean = "%d %d" % (self.f, denominator * spare) if spare > 0 else "none"
 
     def lines(self):
         out = ["fit %d %d %d" % (self.n, self.edges, self.denominator)]
         out += ["edge %d %d %d" % (v, x, m) for v, (x, m) in enumerate(zip(self.numerators, self.rounded))]
-        out += ["length %d" % self.length, "square %d %d %d" % (self.f, self.r, self.h), "mean %d %d" % self.mean]
+        out += ["length %d" % self.length, "square %d %d %d" % (self.f, self.r, self.h), "mean " + self.mean]
         return out
 
 

@@ -10,10 +10,11 @@ use lib.Seq.{take-suc}
 use Rattle.exact.specs.Table.{entryOf}
 use Rattle.verdict.specs.declared.Place.{Place}
 use Rattle.verdict.specs.declared.Place.the-variants.{EdgeSum}
+use Rattle.mean.specs.declared.Mean.{Mean}
 use Rattle.text.specs.Text.{decimal, signed, Wrote}
 use Rattle.text.proofs.Decimals.{decimal-length, signed-length}
 use Rattle.text.proofs.Writing.{wrote-none, wrote-then, wrote-length}
-use Rattle.lines.specs.Lines.{fields, placeFields, edgeWord, edgeLines}
+use Rattle.lines.specs.Lines.{fields, meanLine, placeFields, edgeWord, edgeLines}
 use Rattle.lines.proofs.Sizes.{fields-length}
 
 -- a piece, and what is written behind it by one who knows that there is room
@@ -41,6 +42,10 @@ wrote-named word n room p q r = rw (fields-one (pos n)) (and-then (simp length-a
 -- a place by what is known of it
 pub wrote-place : {b c : List ℕ} {at k : ℕ} {p : Place} (q : Place) → p ≡ q → Wrote b c at (placeFields q) k → Wrote b c at (placeFields p) k
 wrote-place {b} {c} {at} {k} q e w = subst (λ (x : Place). Wrote b c at (placeFields x) k) (sym e) w
+
+-- the mean square likewise
+pub wrote-mean : {b c : List ℕ} {at k : ℕ} {p : Mean} (F : ℤ) (q : Mean) → p ≡ q → Wrote b c at (meanLine F q) k → Wrote b c at (meanLine F p) k
+wrote-mean {b} {c} {at} {k} F q e w = subst (λ (x : Mean). Wrote b c at (meanLine F x) k) (sym e) w
 
 -- an edge, and its sum behind it
 pub wrote-sum : {b c d f : List ℕ} {at i j k : ℕ} (e : ℕ) (z : ℤ) → at + 51 ≤ length b

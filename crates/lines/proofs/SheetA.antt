@@ -2,13 +2,14 @@
 use mathlib.Core.Path.{_≡_, refl}
 use mathlib.Core.List.{List, [], _∷_, _++_}
 use Prim.Native.Nat.{ℕ}
-use lib.IntN.{pos, negsuc}
+use lib.IntN.{ℤ, pos, negsuc}
 use lib.ListN.{getD}
 use Rattle.verdict.specs.declared.Place.the-variants.{Nowhere, Byte, Vertex, Edge, EdgeSum}
+use Rattle.mean.specs.declared.Mean.the-variants.{None, Over}
 use Rattle.text.specs.Text.{digits}
-use Rattle.lines.specs.Lines.{fields, line, refusedWord, refusedLine, edgeLines, fitText, resolvedText}
+use Rattle.lines.specs.Lines.{fields, line, meanLine, refusedWord, refusedLine, edgeLines, fitText, resolvedText}
 
--- "fit 4 5 2", five edges, "length 23", "square 2 1000000 44", "mean 2 12", each with its LF, as bytes
+-- "fit 4 5 2", five edges, "length 23", "square 2 1000000 44", "mean 2 2", each with its LF, as bytes
 abbrev pub sheet-a : List ℕ
 sheet-a =
     (102 ∷ 105 ∷ 116 ∷ 32 ∷ 52 ∷ 32 ∷ 53 ∷ 32 ∷ 50 ∷ 10 ∷ [])
@@ -19,13 +20,18 @@ sheet-a =
     ++ (101 ∷ 100 ∷ 103 ∷ 101 ∷ 32 ∷ 52 ∷ 32 ∷ 55 ∷ 32 ∷ 51 ∷ 53 ∷ 48 ∷ 48 ∷ 10 ∷ [])
     ++ (108 ∷ 101 ∷ 110 ∷ 103 ∷ 116 ∷ 104 ∷ 32 ∷ 50 ∷ 51 ∷ 10 ∷ [])
     ++ (115 ∷ 113 ∷ 117 ∷ 97 ∷ 114 ∷ 101 ∷ 32 ∷ 50 ∷ 32 ∷ 49 ∷ 48 ∷ 48 ∷ 48 ∷ 48 ∷ 48 ∷ 48 ∷ 32 ∷ 52 ∷ 52 ∷ 10 ∷ [])
-    ++ (109 ∷ 101 ∷ 97 ∷ 110 ∷ 32 ∷ 50 ∷ 32 ∷ 49 ∷ 50 ∷ 10 ∷ [])
+    ++ (109 ∷ 101 ∷ 97 ∷ 110 ∷ 32 ∷ 50 ∷ 32 ∷ 50 ∷ 10 ∷ [])
 
 pub print-of-a :
-    fitText 4 5 2 (λ v. getD (pos 3 ∷ pos 3 ∷ pos 3 ∷ pos 7 ∷ pos 7 ∷ []) v (pos 0)) (λ v. getD (pos 1500 ∷ pos 1500 ∷ pos 1500 ∷ pos 3500 ∷ pos 3500 ∷ []) v (pos 0)) (pos 23) (pos 2) (pos 1000000) (pos 44) (pos 12)
+    fitText 4 5 2 (λ v. getD (pos 3 ∷ pos 3 ∷ pos 3 ∷ pos 7 ∷ pos 7 ∷ []) v (pos 0)) (λ v. getD (pos 1500 ∷ pos 1500 ∷ pos 1500 ∷ pos 3500 ∷ pos 3500 ∷ []) v (pos 0)) (pos 23) (pos 2) (pos 1000000) (pos 44) (Over (pos 2))
     ≡ sheet-a
 unfolding digits fields edgeLines fitText
 print-of-a = refl
+
+-- "mean none", with its LF
+pub print-of-no-mean : (F : ℤ) → meanLine F None ≡ 109 ∷ 101 ∷ 97 ∷ 110 ∷ 32 ∷ 110 ∷ 111 ∷ 110 ∷ 101 ∷ 10 ∷ []
+unfolding fields
+print-of-no-mean F = refl
 
 -- "refused 14 edge 0 -2", "refused 9 vertex 4", "refused 13 edge 7", "refused 2 byte 0", "refused 6", each with its LF
 pub prints-of-refusals :

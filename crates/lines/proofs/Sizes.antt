@@ -7,11 +7,13 @@ use lib.IntN.{ℤ, pos}
 use lib.ListN.{length, length-append}
 use Rattle.verdict.specs.declared.Place.{Place}
 use Rattle.verdict.specs.declared.Place.the-variants.{Nowhere, Byte, Vertex, Edge, EdgeSum}
+use Rattle.mean.specs.declared.Mean.{Mean}
+use Rattle.mean.specs.declared.Mean.the-variants.{None, Over}
 use Rattle.trees.specs.Limits.{maxEdges}
 use Rattle.text.specs.Text.{signed, Wrote}
 use Rattle.text.proofs.Writing.{wrote-then}
 use Rattle.text.proofs.Decimals.{signed-length}
-use Rattle.lines.specs.Lines.{end, fields, line, edgeWord, edgeLines, placeFields, refusedLine, fitWord, lengthWord, squareWord, meanWord, resolvedWord, fitText, resolvedText}
+use Rattle.lines.specs.Lines.{end, fields, line, edgeWord, edgeLines, placeFields, refusedLine, fitWord, lengthWord, squareWord, meanLine, resolvedWord, fitText, resolvedText}
 use Rattle.lines.specs.Page.{pageSize, widest}
 
 pub fields-length : (zs : List ℤ) → length (fields zs) ≤ 22 * length zs
@@ -51,15 +53,19 @@ refused-widest k p = simp length-append (omega (arith, fields-length (pos k ∷ 
 pub refused-length : (k : ℕ) (p : Place) → length (refusedLine k p) ≤ pageSize
 refused-length k p = omega (arith, refused-widest k p)
 
-pub text-length : (N K D : ℕ) (n m : ℕ → ℤ) (t F R H over : ℤ) → K ≤ maxEdges → length (fitText N K D n m t F R H over) ≤ pageSize
+mean-length : (F : ℤ) (mean : Mean) → length (meanLine F mean) ≤ widest
+mean-length F None = simp length-append (omega (arith, fields-length []))
+mean-length F (Over d) = simp length-append (omega (arith, fields-length (F ∷ d ∷ [])))
+
+pub text-length : (N K D : ℕ) (n m : ℕ → ℤ) (t F R H : ℤ) (mean : Mean) → K ≤ maxEdges → length (fitText N K D n m t F R H mean) ≤ pageSize
 unfolding fitText
-text-length N K D n m t F R H over small = simp length-append (omega (
+text-length N K D n m t F R H mean small = simp length-append (omega (
   arith,
   fields-length (pos N ∷ pos K ∷ pos D ∷ []),
   edges-length K (λ v. n v ∷ m v ∷ []) (λ v. omega arith),
   fields-length (t ∷ []),
   fields-length (F ∷ R ∷ H ∷ []),
-  fields-length (F ∷ over ∷ []),
+  mean-length F mean,
 ))
 
 pub resolved-text-length : (N K : ℕ) (n : ℕ → ℤ) (d : ℕ → ℕ) (m : ℕ → ℤ) (R H : ℤ) → K ≤ maxEdges → length (resolvedText N K n d m R H) ≤ pageSize

@@ -5,6 +5,8 @@ use Prim.Native.Nat.{ℕ, zero, suc}
 use lib.IntN.{ℤ, pos}
 use Rattle.verdict.specs.declared.Place.{Place}
 use Rattle.verdict.specs.declared.Place.the-variants.{Nowhere, Byte, Vertex, Edge, EdgeSum}
+use Rattle.mean.specs.declared.Mean.{Mean}
+use Rattle.mean.specs.declared.Mean.the-variants.{None, Over}
 use Rattle.text.specs.Text.{signed}
 
 -- the end of a line
@@ -20,7 +22,7 @@ fields (z ∷ zs) = 32 ∷ (signed z ++ fields zs)
 abbrev pub line : List ℕ → List ℤ → List ℕ
 line word zs = word ++ (fields zs ++ end)
 
--- "refused", "fit", "byte", "vertex", "edge", "length", "square", "mean", "resolved"
+-- "refused", "fit", "byte", "vertex", "edge", "length", "square", "mean", "none", "resolved"
 abbrev pub refusedWord : List ℕ
 refusedWord = 114 ∷ 101 ∷ 102 ∷ 117 ∷ 115 ∷ 101 ∷ 100 ∷ []
 
@@ -45,6 +47,9 @@ squareWord = 115 ∷ 113 ∷ 117 ∷ 97 ∷ 114 ∷ 101 ∷ []
 abbrev pub meanWord : List ℕ
 meanWord = 109 ∷ 101 ∷ 97 ∷ 110 ∷ []
 
+abbrev pub noneWord : List ℕ
+noneWord = 110 ∷ 111 ∷ 110 ∷ 101 ∷ []
+
 abbrev pub resolvedWord : List ℕ
 resolvedWord = 114 ∷ 101 ∷ 115 ∷ 111 ∷ 108 ∷ 118 ∷ 101 ∷ 100 ∷ []
 
@@ -65,15 +70,20 @@ unfoldable pub edgeLines : ℕ → (ℕ → List ℤ) → List ℕ
 edgeLines zero row = []
 edgeLines (suc K) row = edgeLines K row ++ line edgeWord (pos K ∷ row K)
 
--- the whole print of a fit: fit N K D; edge, the edge, n, m; length, the numerator of the tree length; square F R H; mean, the two
--- numbers of the mean square
-unfoldable pub fitText : ℕ → ℕ → ℕ → (ℕ → ℤ) → (ℕ → ℤ) → ℤ → ℤ → ℤ → ℤ → ℤ → List ℕ
-fitText N K D n m total F R H over =
+-- the line of the mean square: mean, F and what it is over; mean none where it is over nothing
+abbrev pub meanLine : ℤ → Mean → List ℕ
+meanLine F None = line (meanWord ++ (32 ∷ noneWord)) []
+meanLine F (Over d) = line meanWord (F ∷ d ∷ [])
+
+-- the whole print of a fit: fit N K D; edge, the edge, n, m; length, the numerator of the tree length; square F R H; the line of the
+-- mean square
+unfoldable pub fitText : ℕ → ℕ → ℕ → (ℕ → ℤ) → (ℕ → ℤ) → ℤ → ℤ → ℤ → ℤ → Mean → List ℕ
+fitText N K D n m total F R H mean =
     line fitWord (pos N ∷ pos K ∷ pos D ∷ [])
     ++ (edgeLines K (λ v. n v ∷ m v ∷ [])
     ++ (line lengthWord (total ∷ [])
     ++ (line squareWord (F ∷ R ∷ H ∷ [])
-    ++ line meanWord (F ∷ over ∷ []))))
+    ++ meanLine F mean)))
 
 -- the whole print of a resolved tree: resolved N K; edge, the edge, its numerator and its denominator, m; square R H
 unfoldable pub resolvedText : ℕ → ℕ → (ℕ → ℤ) → (ℕ → ℕ) → (ℕ → ℤ) → ℤ → ℤ → List ℕ

@@ -1,11 +1,12 @@
 // Lines of a word and numbers, written into a lent buffer.
+use mean::Mean;
 use verdict::Place;
 ghost use mathlib.Core.List.{[], _∷_, _++_};
 ghost use Prim.Native.Nat.{_+_, _*_, _≤_};
 ghost use lib.IntN.{pos};
 ghost use lib.ListN.{length};
 ghost use Rattle.text.specs.Text.{Wrote};
-ghost use Rattle.lines.specs.Lines.{fields, line, placeFields, refusedLine};
+ghost use Rattle.lines.specs.Lines.{fields, line, meanLine, placeFields, refusedLine};
 ghost use Rattle.lines.specs.Page.{widest};
 
 // Numbers, a space before each.
@@ -31,6 +32,20 @@ pub fn line(text: &mut [u8], at: usize, word: &[u8], values: &[i64]) -> usize
     let numbers = text::put_word(text, at, word);
     let end = fields(text, numbers, values);
     text::put(text, end, b'\n')
+}
+
+// The line of the mean square: F and what it is over, or none.
+pub fn mean_line(text: &mut [u8], at: usize, f: i64, mean: Mean) -> usize
+    requires room { ⌜ at + widest ≤ length (now text) ⌝ }
+    ensures { λ r. ⌜ Wrote (now (text .entry)) (now (text .exit)) at (meanLine f mean) r ⌝ }
+{
+    match mean {
+        Mean::None => line(text, at, b"mean none", &[]),
+        Mean::Over(divisor) => {
+            let values = [f, divisor];
+            line(text, at, b"mean", &values)
+        }
+    }
 }
 
 // A word and a number, a space before it.

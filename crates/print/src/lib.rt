@@ -1,5 +1,6 @@
 // The print of a report, line by line, into a lent buffer: the bytes of RULES, The print and no other. And
 // the print of a resolved tree fitted with no proposal.
+use mean::Mean;
 use tree::Tree;
 ghost use mathlib.Core.Path.{_≡_};
 ghost use mathlib.Core.List.{[], _∷_};
@@ -76,21 +77,20 @@ pub fn fit_text(
     f: i64,
     r: i64,
     h: i64,
-    over: i64,
+    mean: Mean,
 ) -> usize
     requires { ⌜ k ≤ maxEdges ⌝ }
     requires room { ⌜ pageSize ≤ length (now text) ⌝ }
-    ensures { λ next. ⌜ Wrote (now (text .entry)) (now (text .exit)) 0 (fitText n k d (entryOf (now (numerators .entry))) (entryOf (now (rounded .entry))) total f r h over) next ⌝ }
+    ensures { λ next. ⌜ Wrote (now (text .entry)) (now (text .exit)) 0 (fitText n k d (entryOf (now (numerators .entry))) (entryOf (now (rounded .entry))) total f r h mean) next ⌝ }
 {
     let counts = [n as i64, k as i64, d as i64];
     let squares = [f, r, h];
-    let mean = [f, over];
     let length = [total];
     let next = lines::line(text, 0, b"fit", &counts);
     let next = edge_lines(text, next, k, numerators, rounded);
     let next = lines::line(text, next, b"length", &length);
     let next = lines::line(text, next, b"square", &squares);
-    lines::line(text, next, b"mean", &mean)
+    lines::mean_line(text, next, f, mean)
 }
 
 // The whole print of a resolved tree, at the front of the buffer.

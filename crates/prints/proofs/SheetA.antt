@@ -1,7 +1,7 @@
 -- The prints of sheet A, computed by the checker from its bytes: nine lines of the whole sheet, seven of its first two records, which
--- are a sheet without lengths, and two refusals with their places.
+-- are a sheet without lengths, and two refusals with their places; and the print of a sheet of three strains.
 use mathlib.Core.Path.{_≡_, refl}
-use mathlib.Core.List.{List, [], _∷_}
+use mathlib.Core.List.{List, [], _∷_, _++_}
 use Prim.Native.Nat.{ℕ}
 use lib.ListN.{set}
 use Rattle.exact.specs.Sum.{sum, pairs, ind}
@@ -42,3 +42,30 @@ print-of-off = refl
 pub print-of-none : sheetText [] ≡ 114 ∷ 101 ∷ 102 ∷ 117 ∷ 115 ∷ 101 ∷ 100 ∷ 32 ∷ 50 ∷ 32 ∷ 98 ∷ 121 ∷ 116 ∷ 101 ∷ 32 ∷ 48 ∷ 10 ∷ []
 unfolding sum pairs ind tableFrom path hops nearest some first count rowStart place lift below parts digits fields edgeLines fitText number startOf recordsTests
 print-of-none = refl
+
+-- three strains, distances 3 4 5, lengths 1 2 3 over 1: there are as many edges as pairs, and no mean square
+abbrev pub sheetThree : List ℕ
+sheetThree =
+    8 ∷ 0 ∷ 0 ∷ 0 ∷ 1 ∷ 0
+    ∷ 3 ∷ 0 ∷ 3 ∷ 0 ∷ 4 ∷ 0 ∷ 5 ∷ 0
+    ∷ 7 ∷ 0 ∷ 0 ∷ 0 ∷ 2 ∷ 0
+    ∷ 3 ∷ 0 ∷ 4 ∷ 0 ∷ 3 ∷ 3 ∷ 3
+    ∷ 30 ∷ 0 ∷ 0 ∷ 0 ∷ 3 ∷ 0
+    ∷ 1 ∷ 0 ∷ 0 ∷ 0 ∷ 3 ∷ 0
+    ∷ 1 ∷ 0 ∷ 0 ∷ 0 ∷ 0 ∷ 0 ∷ 0 ∷ 0
+    ∷ 2 ∷ 0 ∷ 0 ∷ 0 ∷ 0 ∷ 0 ∷ 0 ∷ 0
+    ∷ 3 ∷ 0 ∷ 0 ∷ 0 ∷ 0 ∷ 0 ∷ 0 ∷ 0
+    ∷ []
+
+-- "fit 3 3 1", three edges, "length 6", "square 0 0 12", "mean none"
+pub print-of-three :
+    sheetText sheetThree
+    ≡ (102 ∷ 105 ∷ 116 ∷ 32 ∷ 51 ∷ 32 ∷ 51 ∷ 32 ∷ 49 ∷ 10 ∷ [])
+    ++ (101 ∷ 100 ∷ 103 ∷ 101 ∷ 32 ∷ 48 ∷ 32 ∷ 49 ∷ 32 ∷ 49 ∷ 48 ∷ 48 ∷ 48 ∷ 10 ∷ [])
+    ++ (101 ∷ 100 ∷ 103 ∷ 101 ∷ 32 ∷ 49 ∷ 32 ∷ 50 ∷ 32 ∷ 50 ∷ 48 ∷ 48 ∷ 48 ∷ 10 ∷ [])
+    ++ (101 ∷ 100 ∷ 103 ∷ 101 ∷ 32 ∷ 50 ∷ 32 ∷ 51 ∷ 32 ∷ 51 ∷ 48 ∷ 48 ∷ 48 ∷ 10 ∷ [])
+    ++ (108 ∷ 101 ∷ 110 ∷ 103 ∷ 116 ∷ 104 ∷ 32 ∷ 54 ∷ 10 ∷ [])
+    ++ (115 ∷ 113 ∷ 117 ∷ 97 ∷ 114 ∷ 101 ∷ 32 ∷ 48 ∷ 32 ∷ 48 ∷ 32 ∷ 49 ∷ 50 ∷ 10 ∷ [])
+    ++ (109 ∷ 101 ∷ 97 ∷ 110 ∷ 32 ∷ 110 ∷ 111 ∷ 110 ∷ 101 ∷ 10 ∷ [])
+unfolding sum pairs ind tableFrom path hops nearest some first count rowStart place lift below parts digits fields edgeLines fitText number startOf recordsTests
+print-of-three = refl

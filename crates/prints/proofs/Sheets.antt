@@ -11,11 +11,11 @@ use Rattle.verdict.specs.Answer.{pass}
 use Rattle.verdict.proofs.Answers.{passes}
 use Rattle.exact.specs.Table.{entryOf}
 use Rattle.exact.proofs.Decide.{by-cases}
-use Rattle.matrix.specs.Place.{pairCount}
+use Rattle.mean.specs.declared.Mean.{Mean}
 use Rattle.trees.specs.Limits.{maxEdges}
 use Rattle.fit.specs.Quantities.{roundedOf, treeLength, fOf, rOf, hOf}
 use Rattle.text.specs.Text.{Wrote}
-use Rattle.lines.specs.Lines.{line, edgeWord, edgeLines, fitText, fitWord, lengthWord, squareWord, meanWord}
+use Rattle.lines.specs.Lines.{line, edgeWord, edgeLines, fitText, fitWord, lengthWord, squareWord, meanLine}
 use Rattle.lines.specs.Page.{pageSize}
 use Rattle.lines.proofs.Sizes.{text-length}
 use Rattle.reading.specs.Holds.{strainsOf, distancesOf, parentsOf, denominatorOf, numeratorsOf}
@@ -32,11 +32,11 @@ unfolding edgeLines
 rows-cong zero row row′ f = refl
 rows-cong (suc K) row row′ f = ap₂ _++_ (rows-cong K row row′ (λ v l. f v (omega arith))) (ap (λ (r : List ℤ). line edgeWord (pos K ∷ r)) (f K (omega arith)))
 
-fit-cong : (N K D : ℕ) (n n′ m m′ : ℕ → ℤ) (total F R H over : ℤ) → ((v : ℕ) → v < K → n v ≡ n′ v) → ((v : ℕ) → v < K → m v ≡ m′ v)
-    → fitText N K D n m total F R H over ≡ fitText N K D n′ m′ total F R H over
+fit-cong : (N K D : ℕ) (n n′ m m′ : ℕ → ℤ) (total F R H : ℤ) (mean : Mean) → ((v : ℕ) → v < K → n v ≡ n′ v) → ((v : ℕ) → v < K → m v ≡ m′ v)
+    → fitText N K D n m total F R H mean ≡ fitText N K D n′ m′ total F R H mean
 unfolding fitText
-fit-cong N K D n n′ m m′ total F R H over f g =
-    ap (λ (e : List ℕ). line fitWord (pos N ∷ pos K ∷ pos D ∷ []) ++ (e ++ (line lengthWord (total ∷ []) ++ (line squareWord (F ∷ R ∷ H ∷ []) ++ line meanWord (F ∷ over ∷ [])))))
+fit-cong N K D n n′ m m′ total F R H mean f g =
+    ap (λ (e : List ℕ). line fitWord (pos N ∷ pos K ∷ pos D ∷ []) ++ (e ++ (line lengthWord (total ∷ []) ++ (line squareWord (F ∷ R ∷ H ∷ []) ++ meanLine F mean))))
     (rows-cong K (λ v. n v ∷ m v ∷ []) (λ v. n′ v ∷ m′ v ∷ []) (λ v l. ap₂ (λ (a b : ℤ). a ∷ b ∷ []) (f v l) (g v l)))
 
 module _ (s : List ℕ) (x : SheetFit) (a : SheetReport s x) where
@@ -51,7 +51,7 @@ module _ (s : List ℕ) (x : SheetFit) (a : SheetReport s x) where
         ∙ fit-cong (strainsOf s) (length (parentsOf s)) (denominatorOf s) (entryOf (x .numerators)) (entryOf (numeratorsOf s)) (entryOf (x .rounded)) (roundedOf (denominatorOf s) (numeratorsOf s)) (x .report .length) (x .report .f) (x .report .r) (x .report .h) (x .report .mean) (fit .numerators .entries) (fit .rounded .entries)
         ∙ ap₂ (λ (t F : ℤ). fitText (strainsOf s) (length (parentsOf s)) (denominatorOf s) (entryOf (numeratorsOf s)) (roundedOf (denominatorOf s) (numeratorsOf s)) t F (x .report .r) (x .report .h) (x .report .mean)) (p .total) (p .f)
         ∙ ap₂ (λ (R H : ℤ). fitText (strainsOf s) (length (parentsOf s)) (denominatorOf s) (entryOf (numeratorsOf s)) (roundedOf (denominatorOf s) (numeratorsOf s)) (treeLength (numeratorsOf s)) (fOf (strainsOf s) (distancesOf s) (parentsOf s) (denominatorOf s) (numeratorsOf s)) R H (x .report .mean)) (p .r) (p .h)
-        ∙ ap (λ (m : ℤ). fitText (strainsOf s) (length (parentsOf s)) (denominatorOf s) (entryOf (numeratorsOf s)) (roundedOf (denominatorOf s) (numeratorsOf s)) (treeLength (numeratorsOf s)) (fOf (strainsOf s) (distancesOf s) (parentsOf s) (denominatorOf s) (numeratorsOf s)) (rOf (strainsOf s) (distancesOf s) (parentsOf s) (denominatorOf s) (numeratorsOf s)) (hOf (strainsOf s) (parentsOf s)) m) (p .mean)
+        ∙ ap (λ (m : Mean). fitText (strainsOf s) (length (parentsOf s)) (denominatorOf s) (entryOf (numeratorsOf s)) (roundedOf (denominatorOf s) (numeratorsOf s)) (treeLength (numeratorsOf s)) (fOf (strainsOf s) (distancesOf s) (parentsOf s) (denominatorOf s) (numeratorsOf s)) (rOf (strainsOf s) (distancesOf s) (parentsOf s) (denominatorOf s) (numeratorsOf s)) (hOf (strainsOf s) (parentsOf s)) m) (p .mean)
 
     edges-few : length (parentsOf s) ≤ maxEdges
     edges-few = fit .reported .stands .lengths .few

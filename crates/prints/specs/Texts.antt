@@ -6,7 +6,7 @@ use lib.IntN.{pos}
 use lib.ListN.{length, getD}
 use Rattle.exact.specs.Table.{entryOf}
 use Rattle.verdict.specs.Answer.{Answer, pass, fault, answerOf}
-use Rattle.matrix.specs.Place.{pairCount}
+use Rattle.mean.specs.Mean.{meanOf}
 use Rattle.fit.specs.Quantities.{treeLength, fOf, rOf, hOf, roundedOf}
 use Rattle.resolution.specs.Lengths.{topOf, bottomOf, thousandthOf, squareOf}
 use Rattle.text.specs.Text.{Wrote}
@@ -29,14 +29,14 @@ reportText x =
     byAnswer (answerOf (x .report .verdict))
     (fitText (x .report .strains) (x .report .edges) (x .report .denominator) (entryOf (x .numerators)) (entryOf (x .rounded)) (x .report .length) (x .report .f) (x .report .r) (x .report .h) (x .report .mean))
 
--- fit N K D; edge, n, m for each edge; the tree length's numerator; F, R, H; the two numbers of the mean square
+-- fit N K D; edge, n, m for each edge; the tree length's numerator; F, R, H; the mean square
 abbrev pub fitOfSheet : List ℕ → List ℕ
 fitOfSheet s =
     fitText (strainsOf s) (length (parentsOf s)) (denominatorOf s) (entryOf (numeratorsOf s)) (roundedOf (denominatorOf s) (numeratorsOf s)) (treeLength (numeratorsOf s))
     (fOf (strainsOf s) (distancesOf s) (parentsOf s) (denominatorOf s) (numeratorsOf s))
     (rOf (strainsOf s) (distancesOf s) (parentsOf s) (denominatorOf s) (numeratorsOf s))
     (hOf (strainsOf s) (parentsOf s))
-    (pos (denominatorOf s * pairCount (strainsOf s)))
+    (meanOf (strainsOf s) (length (parentsOf s)) (denominatorOf s))
 
 -- the print of a sheet
 abbrev pub sheetText : List ℕ → List ℕ

@@ -30,6 +30,7 @@ fn report_text(fit: SheetFit, text: &mut [u8]) -> usize
 {
     let report = fit.report;
     let verdict = report.verdict;
+    let mean = report.mean;
     let numerators = fit.numerators;
     let rounded = fit.rounded;
     match verdict {
@@ -48,7 +49,7 @@ fn report_text(fit: SheetFit, text: &mut [u8]) -> usize
             report.f,
             report.r,
             report.h,
-            report.mean,
+            mean,
         ),
     }
 }

@@ -42,9 +42,6 @@ module _ (N : ℕ) (ds ps : List ℕ) (D : ℕ) (ns : List ℤ) (s : Stands N ds
   pub edges-few : length ps ≤ maxEdges
   edges-few = lent.few-edges (s .tree)
 
-  pub mean-fits : D * pairCount N ≤ maxDenominator * maxPairs
-  mean-fits = mul-le-mul {n₂ = maxDenominator} {m₂ = maxPairs} (s .lengths .most) (pairs-few N (s .matrix .few))
-
   pub total-near : natAbs (treeLength ns) ≤ maxTreeLength
   total-near = let few : length ns ≤ maxEdges = omega (arith, s .lengths .whole, edges-few) in
       omega (arith, sum-abs (length ns) maxNumerator (entryOf ns) (s .lengths .near), mul-le-mul-right maxNumerator few)

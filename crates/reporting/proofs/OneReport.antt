@@ -4,6 +4,7 @@ use mathlib.Core.List.{List}
 use Prim.Native.Nat.{ℕ}
 use lib.IntN.{ℤ}
 use Rattle.exact.proofs.Decide.{by-cases}
+use Rattle.mean.specs.declared.Mean.{Mean}
 use Rattle.verdict.specs.declared.Verdict.{Verdict}
 use Rattle.verdict.specs.Answer.{Answer, pass}
 use Rattle.verdict.proofs.Answers.{same-answer, passes}
@@ -27,9 +28,9 @@ same-report x y e s =
     ∙ ap₂ (λ (b c : ℕ). whole (y .verdict) (y .strains) b c (x .length) (x .f) (x .r) (x .h) (x .mean)) (s .edges) (s .denominator)
     ∙ ap₂ (λ (z f : ℤ). whole (y .verdict) (y .strains) (y .edges) (y .denominator) z f (x .r) (x .h) (x .mean)) (s .total) (s .f)
     ∙ ap₂ (λ (r h : ℤ). whole (y .verdict) (y .strains) (y .edges) (y .denominator) (y .length) (y .f) r h (x .mean)) (s .r) (s .h)
-    ∙ ap (λ (m : ℤ). whole (y .verdict) (y .strains) (y .edges) (y .denominator) (y .length) (y .f) (y .r) (y .h) m) (s .mean)
+    ∙ ap (λ (m : Mean). whole (y .verdict) (y .strains) (y .edges) (y .denominator) (y .length) (y .f) (y .r) (y .h) m) (s .mean)
   where
-    whole : Verdict → ℕ → ℕ → ℕ → ℤ → ℤ → ℤ → ℤ → ℤ → FitReport
+    whole : Verdict → ℕ → ℕ → ℕ → ℤ → ℤ → ℤ → ℤ → Mean → FitReport
     whole v a b c z f r h m = record { verdict = v; strains = a; edges = b; denominator = c; length = z; f = f; r = r; h = h; mean = m }
 
 module _ (k : Answer) (N : ℕ) (ds ps : List ℕ) (D : ℕ) (ns before after after′ : List ℤ) (x y : FitReport)

@@ -6,7 +6,8 @@ use lib.IntN.{ℤ, pos, natAbs}
 use lib.ListN.{length}
 use Rattle.exact.specs.Table.{table}
 use Rattle.verdict.specs.Answer.{Answer, pass, answerOf, test, _orElse_}
-use Rattle.matrix.specs.Place.{pairCount}
+use Rattle.mean.specs.declared.Mean.the-variants.{None}
+use Rattle.mean.specs.Mean.{meanOf}
 use Rattle.trees.specs.Limits.{maxEdges}
 use Rattle.lengths.specs.Limits.{maxNumerator}
 use Rattle.fit.specs.Quantities.{roundedOf, treeLength, fOf, rOf, hOf}
@@ -27,8 +28,8 @@ pub record Reported (N : ℕ) (ds ps : List ℕ) (D : ℕ) (ns : List ℤ) (afte
   pub f : x .f ≡ fOf N ds ps D ns
   pub r : x .r ≡ rOf N ds ps D ns
   pub h : x .h ≡ hOf N ps
-  -- the mean square is F over D·N(N-1)/2
-  pub mean : x .mean ≡ pos (D * pairCount N)
+  -- what F is over in the mean square, or none
+  pub mean : x .mean ≡ meanOf N (length ps) D
   pub rounded : after ≡ table (length ps) (roundedOf D ns)
   pub stands : Stands N ds ps D ns
   pub least : Least N ds ps D ns
@@ -43,7 +44,7 @@ pub record Silent (x : FitReport) : Type 0 where
   pub f : x .f ≡ pos 0
   pub r : x .r ≡ pos 0
   pub h : x .h ≡ pos 0
-  pub mean : x .mean ≡ pos 0
+  pub mean : x .mean ≡ None
 
 -- a report of the answer a: the numbers and the rounded lengths where it passes, otherwise nothing and the buffer as it was
 pub record Report (a : Answer) (N : ℕ) (ds ps : List ℕ) (D : ℕ) (ns before after : List ℤ) (x : FitReport) : Type 0 where

@@ -1,5 +1,6 @@
 // The report of a fit, over lent slices: its numbers, and its rounded lengths in a lent buffer. A refusal reports nothing
 // and leaves the buffer as it was.
+use mean::Mean;
 use verdict::Place;
 use verdict::Reason;
 use verdict::Refusal;
@@ -10,7 +11,7 @@ ghost use Rattle.fit.specs.Stands.{Posted, Stands};
 ghost use Rattle.reporting.specs.Answers.{Reported, Silent, ProposalReport, ReportAnswer};
 
 // The numbers of an accepted fit; of a refused one the verdict, and zeros. The tree length is length / denominator, the
-// sum of squares f / denominator, the mean square f / mean.
+// sum of squares f / denominator, the mean square f over what mean says.
 pub struct FitReport {
     pub verdict: Verdict,
     pub strains: u32,
@@ -20,7 +21,7 @@ pub struct FitReport {
     pub f: i64,
     pub r: i64,
     pub h: i64,
-    pub mean: i64,
+    pub mean: Mean,
 }
 
 // The report of a refusal: its verdict, and nothing more.
@@ -36,7 +37,7 @@ pub fn silent(refusal: Refusal) -> FitReport
         f: 0,
         r: 0,
         h: 0,
-        mean: 0,
+        mean: Mean::None,
     }
 }
 
@@ -79,7 +80,7 @@ fn numbered(
         f,
         r: squares.r,
         h: squares.h,
-        mean: d as i64 * matrix::pair_count(n) as i64,
+        mean: mean::mean_over(n, edges, d),
     }
 }
 

@@ -1,6 +1,6 @@
 -- For a customer that proves something from our contracts: every law that it cites, in one place.
 -- Of answers: `same-answer`, `not-pass`, `refused-row`, `accepted-row`, `orElse-pass`. Of proposals: `stands→`, `→stands`, `least`,
--- `r-range`, `one-fit`, `accepted-agree`. Of sheets: `sheet-stands`, `sheet-agree`. `computes` is what turns a row of tests that pass
+-- `r-range`, `one-fit`, `accepted-agree`. Of the mean square: `three-none`, `four-over`, `none-three`. Of sheets: `sheet-stands`, `sheet-agree`. `computes` is what turns a row of tests that pass
 -- into `pass`.
 use mathlib.Core.Path.{_≡_}
 use mathlib.Core.List.{List}
@@ -16,6 +16,7 @@ use Rattle.records.specs.Form.{formTests}
 use Rattle.reading.specs.Holds.{strainsOf, distancesOf, parentsOf, denominatorOf, numeratorsOf}
 use Rattle.reading.specs.Tests.{strainsDiffer, heldTests, sheetTests}
 pub use Rattle.verdict.proofs.Answers.{same-answer, not-pass, refused-row, accepted-row, orElse-pass, pass-orElse, pass-test}
+pub use Rattle.mean.proofs.Divisor.{three-none, four-over, none-three}
 pub use Rattle.fit.proofs.Exactly.{stands→, →stands, posted→, →posted}
 pub use Rattle.fit.proofs.Demand3.{least, r-range}
 pub use Rattle.fit.proofs.OneFit.{one-fit, accepted-one, accepted-agree}

@@ -8,7 +8,7 @@ use lib.IntN.{pos}
 use Rattle.exact.specs.Table.{entryOf}
 use Rattle.exact.proofs.Sign.{fits-abs, back-pos}
 use Rattle.text.specs.Text.{Wrote}
-use Rattle.lines.specs.Lines.{line, fitWord, lengthWord, squareWord, meanWord, fitText}
+use Rattle.lines.specs.Lines.{line, fitWord, lengthWord, squareWord, meanLine, fitText}
 use Rattle.lines.specs.Page.{widest}
 use Rattle.lines.proofs.Pieces.{and-then}
 use Rattle.lines.proofs.Sizes.{line-length, edges-end, text-length}
@@ -28,9 +28,9 @@ fourth : (c : tie.After-line3) → let a = c .before .before .before .before .be
     Wrote (c .before .before .before .before .before .before .line2 .last .0) (c .line3 .last .0) (c .before .before .before .before .before .before .line2 .result) (line squareWord (a .f ∷ a .r ∷ a .h ∷ [])) (c .line3 .result)
 fourth c = let s = c .before .before .before .before .before .before .before .before .before .before .before .before .before .before .before .before .before .before .before .before .before in simp (toZ-ofZ (s .fits .f), toZ-ofZ (s .fits .r), toZ-ofZ (s .fits .h)) at (c .line3 .ensures)
 
-fifth : (c : tie.After-line4) → let a = c .before .before .before .before .before .before .before .before .before .before .before .before .before .before .before .before .before .before .before .before .before .before .before .before .before .before .before .args in
-    Wrote (c .before .before .before .before .before .before .line3 .last .0) (c .line4 .last .0) (c .before .before .before .before .before .before .line3 .result) (line meanWord (a .f ∷ a .over ∷ [])) (c .line4 .result)
-fifth c = let s = c .before .before .before .before .before .before .before .before .before .before .before .before .before .before .before .before .before .before .before .before .before .before .before .before .before .before .before in simp (toZ-ofZ (s .fits .f), toZ-ofZ (s .fits .over)) at (c .line4 .ensures)
+fifth : (c : tie.After-mean-line) → let a = c .before .before .before .before .before .before .before .before .before .before .before .before .before .before .before .before .before .before .before .before .before .before .before .before .before .args in
+    Wrote (c .before .before .before .before .line3 .last .0) (c .mean-line .last .0) (c .before .before .before .before .line3 .result) (meanLine (a .f) (a .mean)) (c .mean-line .result)
+fifth c = simp (toZ-ofZ (c .before .before .before .before .before .before .before .before .before .before .before .before .before .before .before .before .before .before .before .before .before .before .before .before .before .fits .f)) at (c .mean-line .ensures)
 
 -- where each piece ends, at the latest
 first-end : (c : tie.After-line) → c .line .result ≤ widest
@@ -46,14 +46,14 @@ third-end c = omega (arith, second-end (c .before .before .before .before .befor
 fourth-end : (c : tie.After-line3) → c .line3 .result ≤ 3 * widest + widest * c .before .before .before .before .before .before .before .before .before .before .before .before .before .before .before .before .before .before .before .before .before .args .k
 fourth-end c = let a = c .before .before .before .before .before .before .before .before .before .before .before .before .before .before .before .before .before .before .before .before .before .args in omega (arith, third-end (c .before .before .before .before .before .before), fourth c .place, line-length squareWord (a .f ∷ a .r ∷ a .h ∷ []))
 
+cast-t22 : tie.Need-cast-t22
+cast-t22 c = search needs
+
+cast-t23 : tie.Need-cast-t23
+cast-t23 c = search needs
+
 cast-t24 : tie.Need-cast-t24
 cast-t24 c = search needs
-
-cast-t25 : tie.Need-cast-t25
-cast-t25 c = search needs
-
-cast-t26 : tie.Need-cast-t26
-cast-t26 c = search needs
 
 slice-aggregate-line : tie.Need-slice-aggregate-line
 slice-aggregate-line c = search needs
@@ -85,34 +85,28 @@ slice-aggregate-line-6 c = search needs
 line-requires-3 : tie.Need-line-requires-3
 line-requires-3 c κs = omega (arith, third-end (c .before .before .before .before .before))
 
-slice-aggregate-line-7 : tie.Need-slice-aggregate-line-7
-slice-aggregate-line-7 c = search needs
-
-slice-aggregate-line-8 : tie.Need-slice-aggregate-line-8
-slice-aggregate-line-8 c = search needs
-
-line-requires-4 : tie.Need-line-requires-4
-line-requires-4 c κs = omega (arith, fourth-end (c .before .before .before .before .before))
+mean-line-requires : tie.Need-mean-line-requires
+mean-line-requires c κs = omega (arith, fourth-end (c .before .before .before))
 
 same-length : tie.Need-same-length
 same-length c = search needs
 
 returns : tie.Need-returns
 unfolding fitText
-returns c = let a = c .before .before .before .before .before .before .before .before .before .before .before .before .before .before .before .before .before .before .before .before .before .before .before .before .before .before .before .before .before .args in
-    let fourth-at = c .before .before .before .before .before .before .before .before in
+returns c = let a = c .before .before .before .before .before .before .before .before .before .before .before .before .before .before .before .before .before .before .before .before .before .before .before .before .before .before .before .args in
+    let fourth-at = c .before .before .before .before .before .before in
     let third-at = fourth-at .before .before .before .before .before .before in
     let second-at = third-at .before .before .before .before .before .before in
-    and-then (omega (arith, text-length (a .n) (a .k) (a .d) (entryOf (a .numerators .now)) (entryOf (a .rounded .now)) (a .total) (a .f) (a .r) (a .h) (a .over) (c .before .before .before .before .before .before .before .before .before .before .before .before .before .before .before .before .before .before .before .before .before .before .before .before .before .before .before .before .before .pre .0), c .before .before .before .before .before .before .before .before .before .before .before .before .before .before .before .before .before .before .before .before .before .before .before .before .before .before .before .before .before .pre .1))
+    and-then (omega (arith, text-length (a .n) (a .k) (a .d) (entryOf (a .numerators .now)) (entryOf (a .rounded .now)) (a .total) (a .f) (a .r) (a .h) (a .mean) (c .before .before .before .before .before .before .before .before .before .before .before .before .before .before .before .before .before .before .before .before .before .before .before .before .before .before .before .pre .0), c .before .before .before .before .before .before .before .before .before .before .before .before .before .before .before .before .before .before .before .before .before .before .before .before .before .before .before .pre .1))
     (first (second-at .before .before .before .before)) (λ r. and-then r (second-at .edge-lines .ensures) (λ r. and-then r (third third-at) (λ r. and-then r (fourth fourth-at) (λ _. fifth (c .before .before)))))
 
 pub fit-text-spec : {M : Type 1} → statement M
 fit-text-spec =
     tie.close
     (tie.spec
+    cast-t22
+    cast-t23
     cast-t24
-    cast-t25
-    cast-t26
     slice-aggregate-line
     slice-aggregate-line-2
     line-requires
@@ -123,8 +117,6 @@ fit-text-spec =
     slice-aggregate-line-5
     slice-aggregate-line-6
     line-requires-3
-    slice-aggregate-line-7
-    slice-aggregate-line-8
-    line-requires-4
+    mean-line-requires
     same-length
     returns)

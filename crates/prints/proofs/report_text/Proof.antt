@@ -33,13 +33,12 @@ same-length-2 : tie.Need-same-length-2
 same-length-2 c = search needs
 
 returns-2 : tie.Need-returns-2
-returns-2 c = let x = c .before .before .before .before .before .before .before .before .before .before .before .before .before .before .before .before .before .args .fit .report in
+returns-2 c = let x = c .before .before .before .before .before .before .before .before .before .before .before .before .before .before .before .before .args .fit .report in
     let total = toZ-ofZ {w = w64} {z = x .length} (search needs) in
     let f = toZ-ofZ {w = w64} {z = x .f} (search needs) in
     let r = toZ-ofZ {w = w64} {z = x .r} (search needs) in
     let h = toZ-ofZ {w = w64} {z = x .h} (search needs) in
-    let mean = toZ-ofZ {w = w64} {z = x .mean} (search (needs, c .before .before .before .before .before .before .before .struct-told .given .1 .1 .1 .1 .1)) in
-    shows-accepted (x .verdict) _ _ _ _ (c .before .before .before .before .before .before .before .before .before .before .before .enum-told .given .1) (simp (total, f, r, h, mean) at (c .before .before .fit-text .ensures))
+    shows-accepted (x .verdict) _ _ _ _ (c .before .before .before .before .before .before .before .before .before .before .enum-told .given .1) (simp (total, f, r, h) at (c .before .before .fit-text .ensures))
 
 pub report-text-spec : {M : Type 1} → statement M
 report-text-spec =

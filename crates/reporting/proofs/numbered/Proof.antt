@@ -13,21 +13,10 @@ use Rattle.matrix.proofs.Places.{pairs-few}
 use Rattle.lengths.specs.Limits.{maxDenominator}
 use Rattle.fit.proofs.Demand3.{least}
 use Rattle.pairs.proofs.Lent.{standing, ready, in-range}
-use Rattle.reporting.proofs.Numbers.{posted, edges-few, mean-fits, total-near, total-is, f-fits, ready-rounded, r-same, r-fits, rounded-is}
+use Rattle.reporting.proofs.Numbers.{posted, edges-few, total-near, total-is, f-fits, ready-rounded, r-same, r-fits, rounded-is}
 use borrow.Author.Needs.{needs}
 use Rattle.reporting.proofs.numbered.Statement.{statement}
 use Rattle.reporting.proofs.numbered.Tie as tie
-
--- the mean square's divisor, as it is cast and multiplied
-few : (c : tie.After-pair-count) → c .pair-count .result ≤ maxPairs
-few c = let s = c .before .before .before .before .before .before .before .before .before .before .before .before .before .before .before in omega (arith, c .pair-count .ensures, pairs-few (s .args .n) (s .pre .0 .matrix .few))
-
-divisor : (c : tie.After-pair-count) → let a = c .before .before .before .before .before .before .before .before .before .before .before .before .before .before .before .args in toZ w64 (a .d) *ℤ toZ w64 (c .pair-count .result) ≡ pos (a .d * pairCount (a .n))
-divisor c = let s = c .before .before .before .before .before .before .before .before .before .before .before .before .before .before .before in
-    ap₂ _*ℤ_ (back-pos (s .args .d) (omega arith)) (back-pos (c .pair-count .result) (omega (arith, few c)) ∙ ap pos (c .pair-count .ensures))
-
-divisor-near : (c : tie.After-pair-count) → let a = c .before .before .before .before .before .before .before .before .before .before .before .before .before .before .before .args in natAbs (toZ w64 (a .d) *ℤ toZ w64 (c .pair-count .result)) ≤ maxDenominator * maxPairs
-divisor-near c = omega (arith, ap natAbs (divisor c), mean-fits _ _ _ _ _ (c .before .before .before .before .before .before .before .before .before .before .before .before .before .before .before .pre .0))
 
 clusters-requires : tie.Need-clusters-requires
 clusters-requires c κs = search needs
@@ -57,17 +46,8 @@ total-requires c κs = let s = c .before .before .before .before .before .before
 copy-out-requires : tie.Need-copy-out-requires
 copy-out-requires c κs = search needs
 
-cast-t25 : tie.Need-cast-t25
-cast-t25 c = search needs
-
-pair-count-requires : tie.Need-pair-count-requires
-pair-count-requires c κs = search needs
-
-cast-t27 : tie.Need-cast-t27
-cast-t27 c = fits-abs _ (omega (arith, few c))
-
-mul-t28 : tie.Need-mul-t28
-mul-t28 c = fits-abs _ (omega (arith, divisor-near c))
+mean-over-requires : tie.Need-mean-over-requires
+mean-over-requires c κs = c .before .before .before .before .before .before .before .before .before .before .before .before .before .before .pre .0 .matrix .few
 
 same-length : tie.Need-same-length
 same-length c = search needs
@@ -86,7 +66,7 @@ returns c = let s = c .before .before .before .before .before .before .before .b
         f = toZ-ofZ {w = w64} {z = c .before .before .before .before .before .before .before .before .before .before .sum-f .result} (search needs) ∙ c .before .before .before .before .before .before .before .before .before .before .sum-f .ensures;
         r = toZ-ofZ {w = w64} {z = sums .sum-squares .result .r} (search needs) ∙ sums .sum-squares .ensures .0 ∙ r-same _ _ _ _ _ p _ e;
         h = toZ-ofZ {w = w64} {z = sums .sum-squares .result .h} (search needs) ∙ sums .sum-squares .ensures .1;
-        mean = back _ (omega (arith, divisor-near (c .before))) ∙ divisor (c .before);
+        mean = c .before .mean-over .ensures;
         rounded = rounded-is _ _ _ _ _ p _ e _ (c .before .before .before .copy-out .ensures);
         stands = p;
         least = least _ _ _ _ _ p;
@@ -105,9 +85,6 @@ numbered-spec =
     sum-squares-requires
     total-requires
     copy-out-requires
-    cast-t25
-    pair-count-requires
-    cast-t27
-    mul-t28
+    mean-over-requires
     same-length
     returns)

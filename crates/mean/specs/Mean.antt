@@ -1,0 +1,16 @@
+-- The mean square's divisor (RULES, The numbers of a fit): D times the pairs less the edges; where nothing is left of the pairs
+-- there is none.
+use Prim.Native.Nat.{ℕ, zero, suc, _-_, _*_}
+use lib.IntN.{pos}
+use Rattle.matrix.specs.Place.{pairCount}
+use Rattle.mean.specs.declared.Mean.{Mean}
+use Rattle.mean.specs.declared.Mean.the-variants.{None, Over}
+
+-- D times what is left
+abbrev pub times : ℕ → ℕ → Mean
+times D zero = None
+times D (suc k) = Over (pos (D * suc k))
+
+-- of N strains and K edges, over the denominator D
+abbrev pub meanOf : ℕ → ℕ → ℕ → Mean
+meanOf N K D = times D (pairCount N - K)
