@@ -27,6 +27,19 @@ static void count(int fine, const char *what, uint32_t n) {
     }
 }
 
+/* Lengths half way between two thousandths that came: positive with an even and an odd one below them, and negative
+ * likewise, the sign set aside. */
+static long ties[2][2];
+
+static void count_ties(uint32_t k, const struct buffers *b) {
+    for (uint32_t v = 0; v < k; v++) {
+        int64_t twice = 2000 * (b->tops[v] < 0 ? -b->tops[v] : b->tops[v]);
+        if (twice % b->bottoms[v] == 0 && twice / b->bottoms[v] % 2 == 1) {
+            ties[b->tops[v] < 0][twice / b->bottoms[v] / 2 % 2]++;
+        }
+    }
+}
+
 static void refuses(uint32_t number, uint32_t n, const uint16_t *d, size_t pairs, const uint8_t *parents, size_t edges,
                     size_t tops, size_t bottoms, size_t rounded) {
     struct buffers b, was;
@@ -131,6 +144,7 @@ int main(void) {
         plain_resolved(n, d, parents, plain.tops, plain.bottoms, plain.rounded, square);
         uint32_t got = resolved_lengths(n, d, pairs, parents, k, ours.tops, k, ours.bottoms, k, ours.rounded, k);
         count(got == 0 && memcmp(&ours, &plain, sizeof ours) == 0, "a fit", n);
+        count_ties(k, &plain);
         print_all(n, d, parents, &plain, square);
         refuses(4, n, d, pairs - 1, parents, k, k, k, k);
         refuses(15, n, d, pairs, parents, k, k - 1, k, k);
@@ -161,6 +175,8 @@ int main(void) {
     }
     refuses(6, 2, d, 1, parents, 2, 2, 2, 2);
     refuses(6, 0, d, 0, parents, 0, 0, 0, 0);
+    printf("ties: %ld and %ld of positive lengths, %ld and %ld of negative ones\n", ties[0][0], ties[0][1], ties[1][0], ties[1][1]);
+    count(ties[0][0] > 0 && ties[0][1] > 0 && ties[1][0] > 0 && ties[1][1] > 0, "ties of every kind", 0);
     printf("%ld passed, %ld failed\n", passed, failed);
     return failed != 0;
 }

@@ -1,7 +1,7 @@
 #!/usr/bin/env python3
 """Writes the input of the program `figures` and what it must print: the figures of RULES, Bench figures
 that are not starred, with both sides of each limit; sheets with several faults, of which the lowest is the place; fits of the exact solver on trees of every kind, and of
-each a damaged twin; the worked example of Bryant and Waddell (1998) and the data of Felsenstein's (1997) Table 1;
+each a damaged twin; a fit with the ties of RULES, The numbers of a fit, over several denominators; the worked example of Bryant and Waddell (1998) and the data of Felsenstein's (1997) Table 1;
 and for the direct fit every resolved tree of up to six strains, random ones, caterpillars and balanced ones up
 to 64, with the exact solver's lengths, and sheets without lengths that are refused.
 What must be printed comes from the plain reading (reading.py) and the solver (solver.py) alone.
@@ -215,6 +215,23 @@ def table_one():
     return 8, distances, parents, denominator, numerators
 
 
+def sixteenths():
+    """A star of 18 strains: where 17 goes into the sum of all distances, a length is its strain's row sum less that
+    seventeenth, over 16. Distances are drawn until 15/16, 13/16 and their negatives are among the lengths; the same fit
+    over denominators up to the largest."""
+    rng = random.Random(16)
+    n, numerators = 18, []
+    pairs = reading.pairs_of(n)
+    while not {15, 13, -13, -15} <= set(numerators):
+        distances = [rng.choice((0, 0, 0, 0, rng.randint(1, 9))) for _ in pairs]
+        distances[0] += -sum(distances) % 17
+        numerators = [sum(d for d, p in zip(distances, pairs) if i in p) - sum(distances) // 17 for i in range(n)]
+    parents = table_of(star(n), n)
+    assert solver.solve(n, distances, parents) == [Fraction(x, 16) for x in numerators]
+    for denominator in (16, 1984, 2000, 1000000):
+        yield n, distances, parents, denominator, [x * denominator // 16 for x in numerators]
+
+
 def limits():
     """Both sides of each limit, and the figures of RULES, Bench figures that are not starred."""
     n, distances, parents, d, numerators = A
@@ -312,6 +329,7 @@ def sheets():
     for _, (n, distances, parents, d, numerators) in found[:12]:
         times = min(1000000 // d, 10 ** 11 // max(1, max(abs(x) for x in numerators)))
         out.append(reading.sheet(n, distances, parents, d * times, [x * times for x in numerators]))
+    out += [reading.sheet(*fields) for fields in sixteenths()]
     return out
 
 
@@ -369,13 +387,27 @@ def unfitted():
     return out
 
 
+def ties(prints):
+    """How many lengths lie half way between two thousandths: positive with an even and an odd one below them, and
+    negative likewise, the sign set aside."""
+    kinds = []
+    for lines in prints:
+        head = lines[0].split()
+        for row in [line.split() for line in lines if line.startswith("edge")]:
+            twice = 2000 * Fraction(int(row[2]), int(head[3] if head[0] == "fit" else row[3]))
+            if twice % 2 == 1:
+                kinds.append((twice < 0, abs(twice) // 2 % 2))
+    return [kinds.count((negative, odd)) for negative in (False, True) for odd in (0, 1)]
+
+
 def main():
     made = sheets()
     bare = unfitted()
     led = lambda kind, s: struct.pack("<I", len(s) | kind << 24) + s
     stdin = b"".join(led(0, s) for s in made) + b"".join(led(1, s) for s in bare)
-    stdout = "".join(" ".join(lines) + "\n" for lines in [reading.print_of(s) for s in made]
-                     + [reading.resolved_print(s, solver.solve) for s in bare]).encode()
+    judged, resolved = [reading.print_of(s) for s in made], [reading.resolved_print(s, solver.solve) for s in bare]
+    assert all(ties(judged)) and all(ties(resolved))
+    stdout = "".join(" ".join(lines) + "\n" for lines in judged + resolved).encode()
     files = {"stdin": stdin, "stdout": stdout}
     if "--check" in sys.argv:
         same = all(open(os.path.join(CRATE, name), "rb").read() == data for name, data in files.items())
@@ -386,8 +418,8 @@ def main():
     for name, data in files.items():
         with open(os.path.join(CRATE, name), "wb") as file:
             file.write(data)
-    print("%d sheets, %d accepted, %d without lengths, %d resolved, numbers %s" % (len(made), stdout.count(b"fit "), len(bare),
-          stdout.count(b"resolved "),
+    print("%d sheets, %d accepted, %d without lengths, %d resolved, ties %s and %s, numbers %s" % (len(made), stdout.count(b"fit "),
+          len(bare), stdout.count(b"resolved "), ties(judged), ties(resolved),
           sorted({int(line.split()[1]) for line in stdout.decode().splitlines() if line.startswith("refused")})))
     return 0
 

@@ -1,6 +1,8 @@
 """A plain reading of docs/RULES.md, for comparison. It shares nothing with the crates: every sum is taken
 over all pairs, every edge is asked for every pair, and numbers are Python's whole numbers."""
+import math
 import struct
+from fractions import Fraction
 
 MAX_SHEET = 5187
 
@@ -104,12 +106,12 @@ def judge(n, distances, parents, denominator, numerators):
 
 
 def nearest(numerator, denominator):
-    """The whole number nearest 1000·numerator/denominator, a tie going away from zero."""
-    doubled = 2000 * abs(numerator)
-    whole, rest = divmod(doubled, 2 * denominator)
-    if 2 * rest >= 2 * denominator:
-        whole += 1
-    return whole if numerator >= 0 else -whole
+    """Of the two whole numbers about 1000·numerator/denominator the nearer, at a tie the even one; of a negative
+    length the mirror of the positive one's."""
+    exact = Fraction(1000 * abs(numerator), denominator)
+    low = math.floor(exact)
+    m = min((low, low + 1), key=lambda whole: (abs(exact - whole), whole % 2))
+    return m if numerator >= 0 else -m
 
 
 class Report:

@@ -11,6 +11,15 @@ static uint64_t common(uint64_t a, uint64_t b) {
     return a;
 }
 
+/* The whole number nearest 1000·n/d for n of zero or more, at a tie the even one. */
+static int64_t nearest(int64_t n, int64_t d) {
+    int64_t low = 1000 * n / d, below = 1000 * n - low * d, above = d - below;
+    if (below == above) {
+        return low % 2 == 0 ? low : low + 1;
+    }
+    return below < above ? low : low + 1;
+}
+
 static uint32_t place(uint32_t n, uint32_t i, uint32_t j) {
     return i < j ? i * (2 * n - i - 1) / 2 + j - i - 1 : place(n, j, i);
 }
@@ -62,9 +71,7 @@ void plain_resolved(uint32_t n, const uint16_t *d, const uint8_t *parents, int64
         uint64_t g = common(top < 0 ? (uint64_t)-top : (uint64_t)top, (uint64_t)bottom);
         numerators[v] = top / (int64_t)g;
         denominators[v] = (uint32_t)((uint64_t)bottom / g);
-        int64_t twice = 2 * (int64_t)denominators[v], m = numerators[v] < 0 ? -numerators[v] : numerators[v];
-        m = (2000 * m + twice / 2) / twice;
-        rounded[v] = numerators[v] < 0 ? -m : m;
+        rounded[v] = numerators[v] < 0 ? -nearest(-numerators[v], denominators[v]) : nearest(numerators[v], denominators[v]);
     }
     uint64_t r = 0, h = 0;
     for (uint32_t i = 0; i < n; i++) {

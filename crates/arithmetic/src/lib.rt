@@ -3,7 +3,7 @@
 ghost use mathlib.Core.Path.{_≡_};
 ghost use Prim.Native.Nat.{_≤_};
 ghost use lib.IntN.{pos, natAbs, _+ℤ_};
-ghost use Rattle.exact.specs.Nearest.{nearest};
+ghost use Rattle.exact.specs.Nearest.{nearest, nearestEven};
 ghost use Rattle.exact.specs.Modulo.{Modulo};
 ghost use Rattle.exact.specs.Fraction.{Greatest, Lowest, _over_};
 
@@ -29,13 +29,28 @@ pub fn accumulate(acc: u64, t: i64) -> u64
     }
 }
 
-// The length n/d in thousandths: the whole number nearest 1000·n/d, a tie going away from zero.
-pub fn thousandths(n: i64, d: u32) -> i64
-    requires { ⌜ (natAbs n ≤ 10000000000000) × (1 ≤ d) × (d ≤ 134217728) ⌝ }
-    ensures { λ r. ⌜ r ≡ nearest d n ⌝ }
+// The whole number nearest a/d, a tie going to the even neighbour: an odd quotient counts one more, so at a tie it goes
+// up, and an even one stays.
+fn nearest_even(a: u64, d: u32) -> u64
+    requires { ⌜ (a ≤ 10000000000000000) × (1 ≤ d) ⌝ }
+    ensures { λ r. ⌜ r ≡ nearestEven d a ⌝ }
 {
     let whole = d as u64;
-    let rounded = ((2000 * magnitude(n) + whole) / (2 * whole)) as i64;
+    let quotient = a / whole;
+    let rest = a % whole;
+    if 2 * rest + quotient % 2 > whole {
+        quotient + 1
+    } else {
+        quotient
+    }
+}
+
+// The length n/d in thousandths: the whole number nearest 1000·n/d, a tie going to the even neighbour.
+pub fn thousandths(n: i64, d: u32) -> i64
+    requires { ⌜ (natAbs n ≤ 10000000000000) × (1 ≤ d) ⌝ }
+    ensures { λ r. ⌜ r ≡ nearest d n ⌝ }
+{
+    let rounded = nearest_even(1000 * magnitude(n), d) as i64;
     if n >= 0 { rounded } else { 0 - rounded }
 }
 

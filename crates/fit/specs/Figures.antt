@@ -175,11 +175,13 @@ abbrev pub allRound : List Rounded → Bool
 allRound [] = true
 allRound (g ∷ gs) = same (nearest (g .denominator) (g .numerator)) (g .thousandths) && allRound gs
 
--- 15/16 rounds to 938, -15/16 to -938, 163/24 to 6792
+-- 15/16 rounds to 938, -15/16 to -938, 13/16 to 812, -13/16 to -812, 163/24 to 6792
 abbrev pub roundings : List Rounded
 roundings =
     record { denominator = 16; numerator = pos 15; thousandths = pos 938 }
     ∷ record { denominator = 16; numerator = negsuc 14; thousandths = negsuc 937 }
+    ∷ record { denominator = 16; numerator = pos 13; thousandths = pos 812 }
+    ∷ record { denominator = 16; numerator = negsuc 12; thousandths = negsuc 811 }
     ∷ record { denominator = 24; numerator = pos 163; thousandths = pos 6792 }
     ∷ []
 

@@ -12,7 +12,6 @@ ghost use Rattle.exact.specs.LeastSquares.{sumF, sumR, sumH};
 ghost use Rattle.matrix.specs.Place.{distance};
 ghost use Rattle.trees.specs.Chain.{parentOf, partsPair};
 ghost use Rattle.trees.specs.Limits.{maxEdges};
-ghost use Rattle.lengths.specs.Limits.{maxDenominator};
 ghost use Rattle.pairs.specs.Ready.{Ready, InRange};
 ghost use Rattle.exact.specs.Fits.{Fits63};
 
@@ -33,7 +32,7 @@ pub fn total(edges: usize, numerators: &[i64]) -> i64
 
 // m: each length in thousandths, then zeros.
 pub fn rounded(edges: usize, d: u32, numerators: &[i64]) -> [i64; Tree::MAX_EDGES]
-    requires { ⌜ (edges ≤ maxEdges) × (1 ≤ d) × (d ≤ maxDenominator) ⌝ }
+    requires { ⌜ (edges ≤ maxEdges) × (1 ≤ d) ⌝ }
     requires { ⌜ InRange edges (now numerators) ⌝ }
     ensures { λ r. ⌜ r ≡ table maxEdges (λ v. cond (ltb v edges) (nearest d (entryOf (now (numerators .entry)) v)) (pos 0)) ⌝ }
 {

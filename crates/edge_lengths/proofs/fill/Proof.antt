@@ -108,7 +108,6 @@ thousandths-requires : tie.Need-thousandths-requires Inv-loop μ-loop
 thousandths-requires c κs = let e = c .before .before in (
   subst (λ z. natAbs z ≤ 10000000000000) (sym (whole e)) (small (given e) (v e) (edge e) (e .edge-length .result .top) (e .edge-length .result .bottom) (low e)),
   omega (arith, low e .positive),
-  omega (arith, bound e),
 )
 
 mul-top : tie.Need-mul-top Inv-loop μ-loop

@@ -27,7 +27,7 @@ shared-slice-copy-out-thousandths c = search needs
 thousandths-requires : tie.Need-thousandths-requires Inv-loop μ-loop
 thousandths-requires c κs = let l = c .before .before in
     let p = l .before .before in
-    (entry-small (p .pre .1) (l .loop .v) (omega arith), p .pre .0 .1, omega arith)
+    (entry-small (p .pre .1) (l .loop .v) (omega arith), p .pre .0 .1)
 
 mul-lengths : tie.Need-mul-lengths Inv-loop μ-loop
 mul-lengths c = search needs

@@ -24,7 +24,7 @@ clusters-requires c κs = search needs
 rounded-requires : tie.Need-rounded-requires
 rounded-requires c κs = let s = c .before .before .before in
     let l = s .pre .0 .lengths in
-    ((edges-few _ _ _ _ _ (s .pre .0), l .one, l .most), in-range l)
+    ((edges-few _ _ _ _ _ (s .pre .0), l .one), in-range l)
 
 sum-f-requires : tie.Need-sum-f-requires
 sum-f-requires c κs = let s = c .before .before .before .before .before in
