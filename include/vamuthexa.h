@@ -50,9 +50,11 @@ size_t unfitted_print(const uint8_t *sheet, size_t length, uint8_t *text, size_t
 
 /* The lengths of a resolved tree of n strains that fit the distances best. Every table comes as a pointer and how
  * many entries it has: n(n-1)/2 distances, one parent for each of K edges, and three buffers of K entries for the
- * numerators and denominators in lowest terms and for the lengths in thousandths. The number is 4, 6 to 10, 16, 25 or
- * 15, or 0 where the buffers are filled; otherwise they are as they were. No buffer may overlap another, nor a
- * table that is lent beside it. Link with libresolving.a. */
+ * numerators and denominators in lowest terms and for the lengths in thousandths. The distance of strains i and j, with i
+ * below j, stands at distances[j(j-1)/2 + i], so the order is 01, 02, 12, 03, 13, 23, .. and a strain more appends; a
+ * sheet has its distances in rows, 01, 02, .., 0(n-1), 12, .. The number is 4, 6 to 10, 16, 25 or 15, or 0 where the
+ * buffers are filled; otherwise they are as they were. No buffer may overlap another, nor a table that is lent beside
+ * it. Link with libresolving.a. */
 uint32_t resolved_lengths(uint32_t n, const uint16_t *distances, size_t distance_count, const uint8_t *parents,
                           size_t parent_count, int64_t *numerators, size_t numerator_count, uint32_t *denominators,
                           size_t denominator_count, int64_t *rounded, size_t rounded_count);

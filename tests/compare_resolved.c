@@ -57,13 +57,16 @@ static size_t put(uint8_t *at, uint64_t x, int bytes) {
     return (size_t)bytes;
 }
 
+/* The distances stand as in a lent matrix, and go to the sheet's rows. */
 static size_t write_bare(uint8_t *out, uint32_t n, const uint16_t *d, const uint8_t *parents, uint32_t k) {
     size_t at = 0;
     at += put(out + at, 2 + n * (n - 1), 4);
     at += put(out + at, 1, 2);
     at += put(out + at, n, 2);
-    for (uint32_t p = 0; p < n * (n - 1) / 2; p++) {
-        at += put(out + at, d[p], 2);
+    for (uint32_t i = 0; i < n; i++) {
+        for (uint32_t j = i + 1; j < n; j++) {
+            at += put(out + at, d[j * (j - 1) / 2 + i], 2);
+        }
     }
     at += put(out + at, 4 + k, 4);
     at += put(out + at, 2, 2);

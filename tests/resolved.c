@@ -20,8 +20,9 @@ static int64_t nearest(int64_t n, int64_t d) {
     return below < above ? low : low + 1;
 }
 
-static uint32_t place(uint32_t n, uint32_t i, uint32_t j) {
-    return i < j ? i * (2 * n - i - 1) / 2 + j - i - 1 : place(n, j, i);
+/* Where the pair of two strains stands in a lent matrix. */
+static uint32_t place(uint32_t i, uint32_t j) {
+    return i < j ? j * (j - 1) / 2 + i : place(j, i);
 }
 
 /* The distances between the strains of every two vertices, children before parents. */
@@ -30,7 +31,7 @@ static void between(uint32_t n, uint32_t k, const uint16_t *d, uint32_t child[][
         for (uint32_t v = 0; v <= u; v++) {
             int64_t s;
             if (u < n) {
-                s = u == v ? 0 : d[place(n, u, v)];
+                s = u == v ? 0 : d[place(u, v)];
             } else {
                 s = sum[child[u][0]][v] + sum[child[u][1]][v] + (u == k ? sum[child[u][2]][v] : 0);
             }
@@ -76,7 +77,7 @@ void plain_resolved(uint32_t n, const uint16_t *d, const uint8_t *parents, int64
     uint64_t r = 0, h = 0;
     for (uint32_t i = 0; i < n; i++) {
         for (uint32_t j = i + 1; j < n; j++) {
-            int64_t off = 1000 * (int64_t)*d++;
+            int64_t off = 1000 * (int64_t)d[place(i, j)];
             uint64_t edges = 0;
             for (uint32_t a = i, b = j; a != b; edges++) {
                 if (a < b) {

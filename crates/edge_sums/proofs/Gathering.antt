@@ -27,7 +27,7 @@ use Rattle.exact.proofs.Sign.{natAbs-add, back}
 use Rattle.exact.proofs.Sweep.{ind-abs}
 use Rattle.exact.proofs.Sum.{sum-cong, pairs-cong, pairs-sums, S-zero, ind-yes, ind-no}
 use Rattle.matrix.specs.Limits.{maxStrains}
-use Rattle.matrix.specs.Place.{pairPlace}
+use Rattle.matrix.specs.Place.{distanceOf}
 use Rattle.trees.specs.Limits.{maxEdges, maxVertices}
 use Rattle.trees.specs.Chain.{parentOf, partsPair, parts, lift, below}
 use Rattle.trees.specs.Cluster.{bitAt, mask}
@@ -120,13 +120,13 @@ module _ {N K D : ℕ} {ds ps cs : List ℕ} {ns : List ℤ} (w : Ready N K D ds
 
   -- ---- the remainder of a pair, whichever strain is named first
   abbrev rest : ℕ → ℕ → ℤ
-  rest i j = pos D *ℤ pos (getD ds (pairPlace N i j) 0) -ℤ along par K (entryOf ns) i j
+  rest i j = pos D *ℤ distanceOf ds i j -ℤ along par K (entryOf ns) i j
 
   rest-sym : (i j : ℕ) → rest i j ≡ rest j i
-  rest-sym i j = ap₂ (λ (k : ℕ) y. pos D *ℤ pos (getD ds k 0) -ℤ y) (pair-place-sym N i j) (along-sym par K (entryOf ns) i j)
+  rest-sym i j = ap₂ (λ (k : ℕ) y. pos D *ℤ pos (getD ds k 0) -ℤ y) (pair-place-sym i j) (along-sym par K (entryOf ns) i j)
 
   rest-remainder : (i j : ℕ) → i < j → rest i j ≡ remainderAt N K D ds ps ns (i, j)
-  rest-remainder i j l = ap (λ (k : ℕ). pos D *ℤ pos (getD ds k 0) -ℤ along par K (entryOf ns) i j) (pair-place-up N i j l)
+  rest-remainder i j l = ap (λ (k : ℕ). pos D *ℤ pos (getD ds k 0) -ℤ along par K (entryOf ns) i j) (pair-place-up i j l)
 
   module _ (t : InRange K ns) where
     rest-near : (i j : ℕ) → i ≢ j → natAbs (rest i j) ≤ largestRemainder
@@ -207,10 +207,10 @@ module _ {N K D : ℕ} {ds ps cs : List ℕ} {ns : List ℤ} (w : Ready N K D ds
         carrying = record { few = w .standing .allowed .few; room = w .room; most = w .most; near = w .near; low = λ i. omega (arith, low′ i, parent-low, up) }
 
         module _ (i j : ℕ) (p : bitAt there i ≡ true) (q : bitAt here j ≡ true) where
-          by-ways-rest : remainderByWays N D ds ways′ i j ≡ rest i j
-          by-ways-rest = by-ways-is N D ds ways′ i j ∙ ap₂ (λ y z. pos D *ℤ pos (getD ds (pairPlace N i j) 0) -ℤ y -ℤ z) (climbs′ i (at-there i p .0)) (climbs′ j (at-here j q .0))
-              ∙ less-two (pos D *ℤ pos (getD ds (pairPlace N i j) 0)) (climbed par (entryOf ns) (suc v) i) (climbed par (entryOf ns) (suc v) j)
-              ∙ ap (λ y. pos D *ℤ pos (getD ds (pairPlace N i j) 0) -ℤ y)
+          by-ways-rest : remainderByWays D ds ways′ i j ≡ rest i j
+          by-ways-rest = by-ways-is D ds ways′ i j ∙ ap₂ (λ y z. pos D *ℤ distanceOf ds i j -ℤ y -ℤ z) (climbs′ i (at-there i p .0)) (climbs′ j (at-here j q .0))
+              ∙ less-two (pos D *ℤ distanceOf ds i j) (climbed par (entryOf ns) (suc v) i) (climbed par (entryOf ns) (suc v) j)
+              ∙ ap (λ y. pos D *ℤ distanceOf ds i j -ℤ y)
               (sym (along-sym par K (entryOf ns) i j ∙ path-turns par K (w .standing .allowed .up) v j i edge (w .standing .allowed .top v edge) (at-here j q .1) (at-there i p .1) (entryOf ns)))
 
           apart-two : i ≢ j
@@ -228,7 +228,7 @@ module _ {N K D : ℕ} {ds ps cs : List ℕ} {ns : List ℤ} (w : Ready N K D ds
         }
 
         -- what the pairs that meet here give edge u
-        new-pairs : (u : ℕ) → u < K → over here (λ j. over there (λ i. (bit par u i +ℤ bit par u j -ℤ pos 2 *ℤ bit par u m) *ℤ remainderByWays N D ds ways′ i j))
+        new-pairs : (u : ℕ) → u < K → over here (λ j. over there (λ i. (bit par u i +ℤ bit par u j -ℤ pos 2 *ℤ bit par u m) *ℤ remainderByWays D ds ways′ i j))
             ≡ pairs N (λ p. (stands par v v (p .0) *ℤ stands par v m (p .1) +ℤ stands par v m (p .0) *ℤ stands par v v (p .1)) *ℤ share N K D ds ps ns u p)
         new-pairs u l =
             over-cong here _ (λ j. over there (λ i. f i j)) (λ j q. over-cong there _ (λ i. f i j) (λ i p. ap₂ _*ℤ_ (parts-two i j p q u l) (by-ways-rest i j p q)))

@@ -21,4 +21,4 @@ HandedUp K ps own r = EdgeTable K (under (parentOf ps) own) r
 
 -- each edge has the remainders of the pairs that it parts
 abbrev pub EdgeSums : (N K D : ℕ) → (ds ps : List ℕ) → (ns r : List ℤ) → Type 0
-EdgeSums N K D ds ps ns r = EdgeTable K (edgeSum (pairs N) K (partsPair (parentOf ps)) (distance N ds) (pos D) (entryOf ns)) r
+EdgeSums N K D ds ps ns r = EdgeTable K (edgeSum (pairs N) K (partsPair (parentOf ps)) (distance ds) (pos D) (entryOf ns)) r

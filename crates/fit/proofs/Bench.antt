@@ -6,10 +6,10 @@ use Rattle.exact.specs.Table.{tableFrom}
 use Rattle.exact.specs.LeastSquares.{path, hops}
 use Rattle.exact.specs.Nearest.{nearest}
 use Rattle.verdict.specs.Table.{first, some, count}
-use Rattle.matrix.specs.Place.{rowStart, place}
+use Rattle.matrix.specs.Place.{place}
 use Rattle.trees.specs.Chain.{lift, below, parts}
 use Rattle.fit.specs.Figures.{benchHolds}
 
 pub bench : benchHolds ≡ true
-unfolding sum pairs ind tableFrom path hops nearest some first count rowStart place lift below parts
+unfolding sum pairs ind tableFrom path hops nearest some first count place lift below parts
 bench = refl

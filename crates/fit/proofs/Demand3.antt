@@ -128,7 +128,7 @@ module _ {K : ℕ} {d : ℕ × ℕ → ℤ} {D : ℕ} {n : ℕ → ℤ} (w : Bou
 
 -- ---- what stands
 module _ (N : ℕ) (ds ps : List ℕ) (D : ℕ) (ns : List ℤ) (s : Stands N ds ps D ns) where
-  limits : Bounds (length ps) (distance N ds) D (entryOf ns)
+  limits : Bounds (length ps) (distance ds) D (entryOf ns)
   limits = bounds (s .matrix) (s .lengths)
 
   pub least : Least N ds ps D ns

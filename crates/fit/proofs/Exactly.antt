@@ -36,10 +36,10 @@ module _ (N : ℕ) (ds ps : List ℕ) where
 
 module _ (N : ℕ) (ds ps : List ℕ) (D : ℕ) (ns : List ℤ) where
   -- no edge's sum is at fault where each is zero, and the other way round
-  pub equations→ : Equations (pairs N) (length ps) (partsOf ps) (distance N ds) (pos D) (entryOf ns) → sumsTests N ds ps D ns ≡ pass
+  pub equations→ : Equations (pairs N) (length ps) (partsOf ps) (distance ds) (pos D) (entryOf ns) → sumsTests N ds ps D ns ≡ pass
   equations→ h = at-none (length ps) (notZero (edgeSumOf N ds ps D ns)) (λ i. fault 14 (EdgeSum i (edgeSumOf N ds ps D ns i))) (some-no (length ps) (notZero (edgeSumOf N ds ps D ns)) (λ v l. zero-passes (h v l)))
 
-  pub →equations : sumsTests N ds ps D ns ≡ pass → Equations (pairs N) (length ps) (partsOf ps) (distance N ds) (pos D) (entryOf ns)
+  pub →equations : sumsTests N ds ps D ns ≡ pass → Equations (pairs N) (length ps) (partsOf ps) (distance ds) (pos D) (entryOf ns)
   →equations e v h = let z = edgeSumOf N ds ps D ns v in
       abs-zero z (eqb-true (natAbs z) 0 (not-false (eqb (natAbs z) 0)
       (some-none (length ps) (notZero (edgeSumOf N ds ps D ns))

@@ -29,8 +29,8 @@ settles N ps ok x e = no-kernel N (length ps) (parentOf ps) ok x (squares-none N
 module _ (N : ℕ) (ds ps : List ℕ) (D : ℕ) (ns : List ℤ) where
   pub one-fit : Stands N ds ps D ns → OneFit N ds ps D ns
   one-fit s = record {
-    agree = λ D′ ns′ s′. agree (pairs-sums N) (length ps) (partsOf ps) (distance N ds) (pos D) (entryOf ns) (s .equations) (settles N ps (s .tree)) (pos D′) (entryOf ns′) (s′ .equations);
-    strict = strict (pairs-sums N) (length ps) (partsOf ps) (distance N ds) (pos D) (entryOf ns) (s .equations) (settles N ps (s .tree));
+    agree = λ D′ ns′ s′. agree (pairs-sums N) (length ps) (partsOf ps) (distance ds) (pos D) (entryOf ns) (s .equations) (settles N ps (s .tree)) (pos D′) (entryOf ns′) (s′ .equations);
+    strict = strict (pairs-sums N) (length ps) (partsOf ps) (distance ds) (pos D) (entryOf ns) (s .equations) (settles N ps (s .tree));
   }
 
   -- for every input that `judge` accepts

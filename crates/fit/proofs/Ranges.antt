@@ -35,14 +35,14 @@ pub record Bounds (K : ℕ) (d : ℕ × ℕ → ℤ) (D : ℕ) (n : ℕ → ℤ)
   pub numerators : (v : ℕ) → v < K → natAbs (n v) ≤ 100000000000
 
 -- no distance is above 50,000; where the list ends, 0 is read
-pub distance-near : {N : ℕ} {ds : List ℕ} → matrix.Proper N ds → (p : ℕ × ℕ) → natAbs (distance N ds p) ≤ 50000
-distance-near {N} {ds} m p = go (lt-or-ge (place N (p .0) (p .1)) (length ds))
+pub distance-near : {N : ℕ} {ds : List ℕ} → matrix.Proper N ds → (p : ℕ × ℕ) → natAbs (distance ds p) ≤ 50000
+distance-near {N} {ds} m p = go (lt-or-ge (place (p .0) (p .1)) (length ds))
   where
-    go : (place N (p .0) (p .1) < length ds) ⊎ (length ds ≤ place N (p .0) (p .1)) → getD ds (place N (p .0) (p .1)) 0 ≤ 50000
-    go (inl l) = m .near (place N (p .0) (p .1)) l
+    go : (place (p .0) (p .1) < length ds) ⊎ (length ds ≤ place (p .0) (p .1)) → getD ds (place (p .0) (p .1)) 0 ≤ 50000
+    go (inl l) = m .near (place (p .0) (p .1)) l
     go (inr l) = omega (arith, List·getD-eq-default ds 0 l)
 
-pub bounds : {N : ℕ} {ds : List ℕ} {K D : ℕ} {ns : List ℤ} → matrix.Proper N ds → lengths.Proper K D ns → Bounds K (distance N ds) D (entryOf ns)
+pub bounds : {N : ℕ} {ds : List ℕ} {K D : ℕ} {ns : List ℤ} → matrix.Proper N ds → lengths.Proper K D ns → Bounds K (distance ds) D (entryOf ns)
 bounds m l = record {
   few = l .few;
   one = l .one;

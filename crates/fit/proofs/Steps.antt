@@ -14,7 +14,7 @@ use Rattle.exact.proofs.Decide.{eq-yes, eq-no}
 use Rattle.exact.proofs.Quote.{by-ring, quote}
 use Rattle.exact.proofs.Ring.{*ℤ-oneˡ}
 use Rattle.exact.proofs.Sum.{sum-cong, sum-+, sum-*, sum-*ʳ, sum-one, sum-at, sum-zero, pairs-cong, pairs-sums, S-swap, ind-sq, ind-yes, ind-no}
-use Rattle.matrix.specs.Place.{distance, pairPlace}
+use Rattle.matrix.specs.Place.{distance, distanceOf}
 use Rattle.trees.specs.Allowed.{Allowed}
 use Rattle.trees.specs.Chain.{parentOf, kid, parts, partsPair}
 use Rattle.trees.proofs.Chains.{Up, bit, parts-ind, children, partition}
@@ -50,9 +50,9 @@ module _ (N : ℕ) (ds ps : List ℕ) (w : Allowed N (length ps) (parentOf ps)) 
 
   row : splitSum N ds ps i ≡ rowSum N ds i
   row = unfold rowSum in
-      pairs-cong N (λ p l _. ap₂ _*ℤ_ (at-strain p) (ap (λ (k : ℕ). pos (getD ds k 0)) (sym (pair-place-up N (p .0) (p .1) l))))
-      ∙ sym (square (λ j. ind (eqb j i)) (λ j. ind (not (eqb j i))) (λ a b. pos (getD ds (pairPlace N a b) 0)) (λ j. never (eqb j i)) (λ a b. ap (λ (k : ℕ). pos (getD ds k 0)) (pair-place-sym N a b)) N)
-      ∙ sum-at N i (λ j. sum N (λ k. ind (not (eqb k i)) *ℤ pos (getD ds (pairPlace N k j) 0))) h
+      pairs-cong N (λ p l _. ap₂ _*ℤ_ (at-strain p) (ap (λ (k : ℕ). pos (getD ds k 0)) (sym (pair-place-up (p .0) (p .1) l))))
+      ∙ sym (square (λ j. ind (eqb j i)) (λ j. ind (not (eqb j i))) (λ a b. distanceOf ds a b) (λ j. never (eqb j i)) (λ a b. ap (λ (k : ℕ). pos (getD ds k 0)) (pair-place-sym a b)) N)
+      ∙ sum-at N i (λ j. sum N (λ k. ind (not (eqb k i)) *ℤ distanceOf ds k j)) h
 
 -- ---- equation 14
 -- two sums multiplied, without the terms of one place in both
@@ -123,5 +123,5 @@ module _ (N K : ℕ) (par : ℕ → ℕ) (up : Up par K) (d : ℕ × ℕ → ℤ
 pub split-steps : (N : ℕ) (ds ps : List ℕ) → Allowed N (length ps) (parentOf ps) → SplitSteps N ds ps
 split-steps N ds ps w = record {
   outer = λ i h. row N ds ps w i h;
-  inner = λ v h l. joined N (length ps) (parentOf ps) (w .up) (distance N ds) v h (omega arith);
+  inner = λ v h l. joined N (length ps) (parentOf ps) (w .up) (distance ds) v h (omega arith);
 }

@@ -62,7 +62,7 @@ over f (p ∷ ps) = f p ∷ over f ps
 
 -- sheet A
 abbrev pub distancesA : List ℕ
-distancesA = 3 ∷ 7 ∷ 8 ∷ 6 ∷ 9 ∷ 5 ∷ []
+distancesA = 3 ∷ 7 ∷ 6 ∷ 8 ∷ 9 ∷ 5 ∷ []
 
 abbrev pub parentsA : List ℕ
 parentsA = 4 ∷ 4 ∷ 5 ∷ 5 ∷ 5 ∷ []
@@ -189,7 +189,7 @@ roundings =
 -- would be false there
 -- X of the table xs over Q
 abbrev pub xOf : ℕ → List ℕ → List ℕ → ℕ → List ℤ → ℤ
-xOf N ds ps Q xs = sumX (pairs N) (length ps) (partsOf ps) (distance N ds) (pos Q) (entryOf xs)
+xOf N ds ps Q xs = sumX (pairs N) (length ps) (partsOf ps) (distance ds) (pos Q) (entryOf xs)
 
 -- A's own lengths: Q²·D·F is D²·X
 abbrev pub leastThere : Bool

@@ -18,7 +18,7 @@ partsOf ps = partsPair (parentOf ps)
 
 -- the split sum of edge v: the distances of the pairs that it parts
 abbrev pub splitSum : ℕ → List ℕ → List ℕ → ℕ → ℤ
-splitSum N ds ps v = pairs N (λ p. ind (partsOf ps v p) *ℤ distance N ds p)
+splitSum N ds ps v = pairs N (λ p. ind (partsOf ps v p) *ℤ distance ds p)
 
 -- p: the path of a pair
 abbrev pub pathOf : List ℕ → List ℤ → ℕ × ℕ → ℤ
@@ -26,11 +26,11 @@ pathOf ps ns p = path (length ps) (partsOf ps) (entryOf ns) p
 
 -- r: the remainder of a pair
 abbrev pub remainderOf : ℕ → List ℕ → List ℕ → ℕ → List ℤ → ℕ × ℕ → ℤ
-remainderOf N ds ps D ns p = remainder (length ps) (partsOf ps) (distance N ds) (pos D) (entryOf ns) p
+remainderOf N ds ps D ns p = remainder (length ps) (partsOf ps) (distance ds) (pos D) (entryOf ns) p
 
 -- edge v's sum of remainders
 abbrev pub edgeSumOf : ℕ → List ℕ → List ℕ → ℕ → List ℤ → ℕ → ℤ
-edgeSumOf N ds ps D ns v = edgeSum (pairs N) (length ps) (partsOf ps) (distance N ds) (pos D) (entryOf ns) v
+edgeSumOf N ds ps D ns v = edgeSum (pairs N) (length ps) (partsOf ps) (distance ds) (pos D) (entryOf ns) v
 
 -- the numerator of the tree length
 abbrev pub treeLength : List ℤ → ℤ
@@ -38,7 +38,7 @@ treeLength ns = sum (length ns) (entryOf ns)
 
 -- F
 abbrev pub fOf : ℕ → List ℕ → List ℕ → ℕ → List ℤ → ℤ
-fOf N ds ps D ns = sumF (pairs N) (length ps) (partsOf ps) (distance N ds) (pos D) (entryOf ns)
+fOf N ds ps D ns = sumF (pairs N) (length ps) (partsOf ps) (distance ds) (pos D) (entryOf ns)
 
 -- m: the length of edge v in thousandths
 abbrev pub roundedOf : ℕ → List ℤ → ℕ → ℤ
@@ -46,7 +46,7 @@ roundedOf D ns v = nearest D (entryOf ns v)
 
 -- R
 abbrev pub rOf : ℕ → List ℕ → List ℕ → ℕ → List ℤ → ℤ
-rOf N ds ps D ns = sumR (pairs N) (length ps) (partsOf ps) (distance N ds) (roundedOf D ns)
+rOf N ds ps D ns = sumR (pairs N) (length ps) (partsOf ps) (distance ds) (roundedOf D ns)
 
 -- H
 abbrev pub hOf : ℕ → List ℕ → ℤ

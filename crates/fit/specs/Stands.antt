@@ -26,13 +26,13 @@ pub record Stands (N : ℕ) (ds ps : List ℕ) (D : ℕ) (ns : List ℤ) : Type 
   pub matrix : matrix.Proper N ds
   pub tree : Allowed N (length ps) (parentOf ps)
   pub lengths : lengths.Proper (length ps) D ns
-  pub equations : Equations (pairs N) (length ps) (partsOf ps) (distance N ds) (pos D) (entryOf ns)
+  pub equations : Equations (pairs N) (length ps) (partsOf ps) (distance ds) (pos D) (entryOf ns)
 
 -- Least squares: the fit is a minimum, and its rounding to thousandths is within H/4,000,000 of it. F is between 0 and
 -- 5,040,000,000,000,000,000.
 pub record Least (N : ℕ) (ds ps : List ℕ) (D : ℕ) (ns : List ℤ) : Type 0 where
-  pub minimum : Minimum (pairs N) (length ps) (partsOf ps) (distance N ds) (pos D) (entryOf ns) Any
-  pub rounding : Rounding (pairs N) (length ps) (partsOf ps) (distance N ds) (pos D) (entryOf ns) (roundedOf D ns) Any
+  pub minimum : Minimum (pairs N) (length ps) (partsOf ps) (distance ds) (pos D) (entryOf ns) Any
+  pub rounding : Rounding (pairs N) (length ps) (partsOf ps) (distance ds) (pos D) (entryOf ns) (roundedOf D ns) Any
   pub f-low : pos 0 ≤ᶻ fOf N ds ps D ns
   pub f-high : fOf N ds ps D ns ≤ᶻ pos 5040000000000000000
 
@@ -42,4 +42,4 @@ pub record OneFit (N : ℕ) (ds ps : List ℕ) (D : ℕ) (ns : List ℤ) : Type 
   pub agree : (D′ : ℕ) (ns′ : List ℤ) → Stands N ds ps D′ ns′ → (v : ℕ) → v < length ps → pos D′ *ℤ entryOf ns v ≡ pos D *ℤ entryOf ns′ v
   -- every table x over any Q that differs from the fit as fractions at some edge has a strictly larger sum of squares: Q²·D·F is less than D²·X
   pub strict : (Q : ℤ) (x : ℕ → ℤ) (v : ℕ) → v < length ps → (Q *ℤ entryOf ns v ≡ pos D *ℤ x v → ⊥)
-      → Q *ℤ Q *ℤ pos D *ℤ fOf N ds ps D ns <ᶻ pos D *ℤ pos D *ℤ sumX (pairs N) (length ps) (partsOf ps) (distance N ds) Q x
+      → Q *ℤ Q *ℤ pos D *ℤ fOf N ds ps D ns <ᶻ pos D *ℤ pos D *ℤ sumX (pairs N) (length ps) (partsOf ps) (distance ds) Q x

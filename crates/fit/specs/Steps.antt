@@ -6,15 +6,15 @@ use mathlib.Core.List.{List}
 use Prim.Native.Nat.{ℕ, _≤_, _<_}
 use lib.Dec.{eqb}
 use lib.IntN.{ℤ, pos, _-ℤ_, _*ℤ_}
-use lib.ListN.{length, getD}
+use lib.ListN.{length}
 use Rattle.exact.specs.Sum.{sum, pairs, ind}
-use Rattle.matrix.specs.Place.{distance, pairPlace}
+use Rattle.matrix.specs.Place.{distance, distanceOf}
 use Rattle.trees.specs.Chain.{parentOf, below, kid}
 use Rattle.fit.specs.Quantities.{splitSum}
 
 -- the distances of strain i to all others
 unfoldable pub rowSum : ℕ → List ℕ → ℕ → ℤ
-rowSum N ds i = sum N (λ j. ind (not (eqb j i)) *ℤ pos (getD ds (pairPlace N j i) 0))
+rowSum N ds i = sum N (λ j. ind (not (eqb j i)) *ℤ distanceOf ds j i)
 
 -- 1 where the two strains of a pair are below different children of w
 unfoldable pub across : ℕ → (ℕ → ℕ) → ℕ → ℕ × ℕ → ℤ
@@ -27,4 +27,4 @@ pub record SplitSteps (N : ℕ) (ds ps : List ℕ) : Type 0 where
   -- equation 14: of an inner edge its children's split sums, less twice the distances between different children's clusters;
   -- equation 10 is the case of two children
   pub inner : (w : ℕ) → N ≤ w → w < length ps → splitSum N ds ps w
-      ≡ sum (length ps) (λ u. ind (kid (parentOf ps) w u) *ℤ splitSum N ds ps u) -ℤ pos 2 *ℤ pairs N (λ p. across (length ps) (parentOf ps) w p *ℤ distance N ds p)
+      ≡ sum (length ps) (λ u. ind (kid (parentOf ps) w u) *ℤ splitSum N ds ps u) -ℤ pos 2 *ℤ pairs N (λ p. across (length ps) (parentOf ps) w p *ℤ distance ds p)

@@ -41,7 +41,7 @@ remainder-back w i j rising strain off e = ap (λ z. toZ w64 (ofZ w64 z)) e ∙ 
 abbrev pub offBy : List ℕ → ℕ → ℤ → ℤ
 offBy ds k p = toZ w64 (ofZ w64 (pos 1000 *ℤ toZ w64 (getD ds k 0))) -ℤ toZ w64 (ofZ w64 p)
 
-module _ {N K : ℕ} {ds ps cs : List ℕ} {ns : List ℤ} (w : Ready N K 1000 ds ps cs ns) (i j : ℕ) (rising : i < j) (strain : j < N) (k : ℕ) (e : k ≡ place N i j) where
+module _ {N K : ℕ} {ds ps cs : List ℕ} {ns : List ℤ} (w : Ready N K 1000 ds ps cs ns) (i j : ℕ) (rising : i < j) (strain : j < N) (k : ℕ) (e : k ≡ place i j) where
   pub thousandfold-fits : SFits w64 (pos 1000 *ℤ toZ w64 (getD ds k 0))
   thousandfold-fits = subst (λ z. SFits w64 z) (sym (ap (λ a. pos 1000 *ℤ toZ w64 (getD ds a 0)) e ∙ scaled w i j rising strain)) (scaled-fits w i j rising strain)
 

@@ -24,11 +24,11 @@ use Rattle.fit_numbers.proofs.Back.{whole, between, remainder-back}
 
 -- what the pair p adds to F
 abbrev pub termOf : ℕ → ℕ → ℕ → List ℕ → List ℕ → List ℤ → ℕ × ℕ → ℤ
-termOf N K D ds ps ns p = distance N ds p *ℤ remainderAt N K D ds ps ns p
+termOf N K D ds ps ns p = distance ds p *ℤ remainderAt N K D ds ps ns p
 
 module _ {N K D : ℕ} {ds ps cs : List ℕ} {ns : List ℤ} (w : Ready N K D ds ps cs ns) (w′ : InRange K ns) where
   -- k is where the code reads the distance, off what it gets as the remainder
-  module _ (i j : ℕ) (rising : i < j) (strain : j < N) (k : ℕ) (e : k ≡ place N i j) (off : ℤ) (g : off ≡ remainderAt N K D ds ps ns (i, j)) where
+  module _ (i j : ℕ) (rising : i < j) (strain : j < N) (k : ℕ) (e : k ≡ place i j) (off : ℤ) (g : off ≡ remainderAt N K D ds ps ns (i, j)) where
     same : toZ w64 (getD ds k 0) *ℤ toZ w64 (ofZ w64 off) ≡ termOf N K D ds ps ns (i, j)
     same = ap₂ _*ℤ_ (back-pos (getD ds k 0) (omega (arith, w .near k)) ∙ ap (λ a. pos (getD ds a 0)) e) (remainder-back w i j rising strain off g)
 

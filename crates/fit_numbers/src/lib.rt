@@ -57,14 +57,14 @@ pub fn sum_f(
 ) -> i64
     requires { ⌜ Ready n edges d (now distances) (now parents) (now masks) (now numerators) ⌝ }
     requires { ⌜ InRange edges (now numerators) ⌝ }
-    requires { ⌜ Fits63 (sumF (pairs n) edges (partsPair (parentOf (now parents))) (distance n (now distances)) (pos d) (entryOf (now numerators))) ⌝ }
-    ensures { λ r. ⌜ r ≡ sumF (pairs n) edges (partsPair (parentOf (now (parents .entry)))) (distance n (now (distances .entry))) (pos d) (entryOf (now (numerators .entry))) ⌝ }
+    requires { ⌜ Fits63 (sumF (pairs n) edges (partsPair (parentOf (now parents))) (distance (now distances)) (pos d) (entryOf (now numerators))) ⌝ }
+    ensures { λ r. ⌜ r ≡ sumF (pairs n) edges (partsPair (parentOf (now (parents .entry)))) (distance (now (distances .entry))) (pos d) (entryOf (now (numerators .entry))) ⌝ }
 {
     let mut acc: u64 = 0;
     let mut i = 0;
     let mut j = 1;
     while j < n {
-        let far = distances[matrix::place(n, i, j)] as i64;
+        let far = distances[matrix::place(i, j)] as i64;
         let term = far * pairs::remainder(n, edges, d, distances, parents, masks, numerators, i, j);
         acc = arithmetic::accumulate(acc, term);
         let next = pairs::next_pair(i, j);
@@ -91,8 +91,8 @@ pub fn sum_squares(
     lengths: &[i64],
 ) -> SquareSums
     requires { ⌜ Ready n edges 1000 (now distances) (now parents) (now masks) (now lengths) ⌝ }
-    requires { ⌜ Fits63 (sumR (pairs n) edges (partsPair (parentOf (now parents))) (distance n (now distances)) (entryOf (now lengths))) ⌝ }
-    ensures { λ s. ⌜ s .r ≡ sumR (pairs n) edges (partsPair (parentOf (now (parents .entry)))) (distance n (now (distances .entry))) (entryOf (now (lengths .entry))) ⌝ }
+    requires { ⌜ Fits63 (sumR (pairs n) edges (partsPair (parentOf (now parents))) (distance (now distances)) (entryOf (now lengths))) ⌝ }
+    ensures { λ s. ⌜ s .r ≡ sumR (pairs n) edges (partsPair (parentOf (now (parents .entry)))) (distance (now (distances .entry))) (entryOf (now (lengths .entry))) ⌝ }
     ensures { λ s. ⌜ s .h ≡ sumH (pairs n) edges (partsPair (parentOf (now (parents .entry)))) ⌝ }
 {
     let mut r: i64 = 0;
@@ -100,7 +100,7 @@ pub fn sum_squares(
     let mut i = 0;
     let mut j = 1;
     while j < n {
-        let far = distances[matrix::place(n, i, j)] as i64;
+        let far = distances[matrix::place(i, j)] as i64;
         let walked = paths::walked(n, edges, parents, masks, lengths, i, j);
         let off = 1000 * far - walked.sum;
         r += off * off;

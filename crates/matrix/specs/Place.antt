@@ -1,4 +1,4 @@
--- Where a pair of strains stands: the order 01, 02, .., 0(N-1), 12, 13, .. Nothing else knows it.
+-- Where a pair of strains stands: in a matrix, and in the rows of a sheet or of a path buffer. Nothing else knows either.
 use mathlib.Core.Bool.{cond}
 use mathlib.Core.List.{List}
 use Prim.Native.Nat.{ℕ, zero, suc, _+_, _-_, _*_, _/_}
@@ -10,19 +10,41 @@ use lib.ListN.{getD}
 abbrev pub pairCount : ℕ → ℕ
 pairCount N = N * (N - 1) / 2
 
+-- ---- in a matrix: 01, 02, 12, 03, 13, 23, ..
+-- the place of the pair i j, with i below j: behind all pairs of the strains before j. How many strains there are does not matter.
+unfoldable pub place : ℕ → ℕ → ℕ
+place i j = j * (j - 1) / 2 + i
+
+-- the place of a pair, whichever strain is named first
+unfoldable pub pairPlace : ℕ → ℕ → ℕ
+pairPlace i j = cond (ltb i j) (place i j) (place j i)
+
+-- the pair behind another, and the pair at each place
+abbrev pub behind : ℕ × ℕ → ℕ × ℕ
+behind p = cond (ltb (p .0 + 1) (p .1)) (p .0 + 1, p .1) (0, p .1 + 1)
+
+unfoldable pub pairAt : ℕ → ℕ × ℕ
+pairAt zero = (0, 1)
+pairAt (suc k) = behind (pairAt k)
+
+-- d: the distance of a pair
+abbrev pub distance : List ℕ → ℕ × ℕ → ℤ
+distance ds p = pos (getD ds (place (p .0) (p .1)) 0)
+
+-- the distance of two strains, whichever is named first
+abbrev pub distanceOf : List ℕ → ℕ → ℕ → ℤ
+distanceOf ds i j = pos (getD ds (pairPlace i j) 0)
+
+-- ---- in the rows of N strains: 01, 02, .., 0(N-1), 12, 13, ..
 -- where the pairs of strain i with a later one begin: behind those of the strains before it
 unfoldable pub rowStart : ℕ → ℕ → ℕ
 rowStart N zero = 0
 rowStart N (suc i) = rowStart N i + (N - suc i)
 
 -- the place of the pair i j, with i below j
-unfoldable pub place : ℕ → ℕ → ℕ → ℕ
-place N i j = rowStart N i + (j - suc i)
+unfoldable pub rowPlace : ℕ → ℕ → ℕ → ℕ
+rowPlace N i j = rowStart N i + (j - suc i)
 
--- the place of a pair, whichever strain is named first
-unfoldable pub pairPlace : ℕ → ℕ → ℕ → ℕ
-pairPlace N i j = cond (ltb i j) (place N i j) (place N j i)
-
--- d: the distance of a pair
-abbrev pub distance : ℕ → List ℕ → ℕ × ℕ → ℤ
-distance N ds p = pos (getD ds (place N (p .0) (p .1)) 0)
+-- ---- from one to the other: what stands at each place of a matrix, by what stands at each place of the rows
+abbrev pub fromRows : ℕ → (ℕ → ℕ) → ℕ → ℕ
+fromRows N rows k = rows (rowPlace N (pairAt k .0) (pairAt k .1))

@@ -5,16 +5,16 @@ use verdict::Refusal;
 use verdict::Verdict;
 ghost use mathlib.Core.Path.{_≡_};
 ghost use mathlib.Core.Logic.{_≢_};
-ghost use Prim.Native.Nat.{_≤_, _<_};
+ghost use Prim.Native.Nat.{_+_, _≤_, _<_};
 ghost use lib.ListN.{length, getD};
 ghost use Rattle.exact.specs.Table.{table};
 ghost use Rattle.verdict.specs.Answer.{answerOf};
 ghost use Rattle.matrix.specs.Limits.{minStrains, maxStrains, maxDistance, maxPairs};
-ghost use Rattle.matrix.specs.Place.{pairCount, place, pairPlace};
+ghost use Rattle.matrix.specs.Place.{pairCount, place, pairPlace, rowPlace};
 ghost use Rattle.matrix.specs.Tests.{distanceOut, matrixTests};
 ghost use Rattle.matrix.specs.Kept.{MatrixAnswer};
 
-// The distances between n strains, in the order 01, 02, .., 0(n-1), 12, 13, .., then zeros.
+// The distances between n strains, in the order 01, 02, 12, 03, 13, 23, .., then zeros: a strain appends.
 pub struct Matrix {
     pub n: usize,
     pub distances: [u16; Matrix::MAX_PAIRS],
@@ -88,23 +88,39 @@ pub fn pair_count(n: u32) -> u64
     strains * (strains - 1) / 2
 }
 
-// Where the pair i j stands among the distances of n strains.
-pub fn place(n: usize, i: usize, j: usize) -> usize
+// Where the pair i j stands in a matrix, of however many strains.
+pub fn place(i: usize, j: usize) -> usize
+    requires { ⌜ (i < j) × (j < maxStrains) ⌝ }
+    ensures { λ r. ⌜ r ≡ place i j ⌝ }
+{
+    j * (j - 1) / 2 + i
+}
+
+// Where the pair of two strains stands in a matrix, whichever is named first.
+pub fn pair_place(i: usize, j: usize) -> usize
+    requires { ⌜ (i < maxStrains) × (j < maxStrains) × (i ≢ j) ⌝ }
+    ensures { λ r. ⌜ r ≡ pairPlace i j ⌝ }
+{
+    if i < j {
+        return place(i, j);
+    }
+    place(j, i)
+}
+
+// Where the pair i j of n strains stands in the rows of a sheet or of a path buffer.
+pub fn row_place(n: usize, i: usize, j: usize) -> usize
     requires { ⌜ (i < j) × (j < n) × (n ≤ maxStrains) ⌝ }
-    ensures { λ r. ⌜ r ≡ place n i j ⌝ }
+    ensures { λ r. ⌜ r ≡ rowPlace n i j ⌝ }
 {
     i * (2 * n - i - 1) / 2 + (j - i - 1)
 }
 
-// Where the pair of two strains stands among the distances, whichever is named first.
-pub fn pair_place(n: usize, i: usize, j: usize) -> usize
-    requires { ⌜ (i < n) × (j < n) × (i ≢ j) × (n ≤ maxStrains) ⌝ }
-    ensures { λ r. ⌜ r ≡ pairPlace n i j ⌝ }
+// Where i + 1 and j stand in the rows of n strains, by where i and j do.
+pub fn row_below(n: usize, i: usize, j: usize, row: usize) -> usize
+    requires { ⌜ (i + 1 < j) × (j < n) × (n ≤ maxStrains) × (row ≡ rowPlace n i j) ⌝ }
+    ensures { λ r. ⌜ r ≡ rowPlace n (i + 1) j ⌝ }
 {
-    if i < j {
-        return place(n, i, j);
-    }
-    place(n, j, i)
+    row + (n - i - 2)
 }
 
 // Some distance is above its limit.

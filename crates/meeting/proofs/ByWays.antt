@@ -13,35 +13,35 @@ use mir.Val.{SFits, toZ, ofZ}
 use Rattle.exact.proofs.Decide.{by-cases}
 use Rattle.exact.proofs.Sign.{natAbs-sub, fits-abs, back, back-pos}
 use Rattle.matrix.specs.Limits.{maxDistance}
-use Rattle.matrix.specs.Place.{pairPlace}
+use Rattle.matrix.specs.Place.{pairPlace, distanceOf}
 use Rattle.matrix.proofs.Places.{place-bound, pair-place-up, pair-place-down}
 use Rattle.exact.specs.Table.{entryOf}
 use Rattle.lengths.specs.Limits.{maxDenominator}
 use Rattle.meeting.specs.Meeting.{farthestWay, largestRemainder, Carrying, remainderByWays}
 
-pub by-ways-is : (N D : ℕ) (ds : List ℕ) (ways : List ℤ) (i j : ℕ) → remainderByWays N D ds ways i j ≡ pos D *ℤ pos (getD ds (pairPlace N i j) 0) -ℤ entryOf ways i -ℤ entryOf ways j
+pub by-ways-is : (D : ℕ) (ds : List ℕ) (ways : List ℤ) (i j : ℕ) → remainderByWays D ds ways i j ≡ pos D *ℤ distanceOf ds i j -ℤ entryOf ways i -ℤ entryOf ways j
 unfolding remainderByWays
-by-ways-is N D ds ways i j = refl
+by-ways-is D ds ways i j = refl
 
 module _ {N D : ℕ} {ds : List ℕ} {ways : List ℤ} (w : Carrying N D ds ways) (i j : ℕ) (hi : i < N) (hj : j < N) (apart : i ≢ j) where
-  pub slot : pairPlace N i j < length ds
+  pub slot : pairPlace i j < length ds
   slot = by-cases (decLt i j)
-      (λ l. omega (arith, pair-place-up N i j l, place-bound N i j l hj, w .room))
-      (λ l. omega (arith, pair-place-down N i j (omega arith), place-bound N j i (omega arith) hi, w .room))
+      (λ l. omega (arith, pair-place-up i j l, place-bound N i j l hj, w .room))
+      (λ l. omega (arith, pair-place-down i j (omega arith), place-bound N j i (omega arith) hi, w .room))
 
-  module _ (slot′ : ℕ) (e : slot′ ≡ pairPlace N i j) where
+  module _ (slot′ : ℕ) (e : slot′ ≡ pairPlace i j) where
     abbrev far : ℕ
-    far = getD ds (pairPlace N i j) 0
+    far = getD ds (pairPlace i j) 0
 
     product-small : D * far ≤ maxDenominator * maxDistance
-    product-small = mul-le-mul {n₂ = maxDenominator} {m₂ = maxDistance} (w .most) (w .near (pairPlace N i j))
+    product-small = mul-le-mul {n₂ = maxDenominator} {m₂ = maxDistance} (w .most) (w .near (pairPlace i j))
 
     -- D times the distance, as it is cast and multiplied
     abbrev code : ℤ
     code = toZ w64 D *ℤ toZ w64 (getD ds slot′ 0)
 
     scaled : code ≡ pos D *ℤ pos far
-    scaled = rw e (ap₂ _*ℤ_ (back-pos D (omega (arith, w .most))) (back-pos far (omega (arith, w .near (pairPlace N i j)))))
+    scaled = rw e (ap₂ _*ℤ_ (back-pos D (omega (arith, w .most))) (back-pos far (omega (arith, w .near (pairPlace i j)))))
 
     scaled-near : natAbs code ≤ maxDenominator * maxDistance
     scaled-near = omega (arith, ap natAbs scaled, product-small)
@@ -69,7 +69,7 @@ module _ {N D : ℕ} {ds : List ℕ} {ways : List ℤ} (w : Carrying N D ds ways
     abbrev least : ℤ
     least = toZ w64 (ofZ w64 less) -ℤ toZ w64 (ofZ w64 (entryOf ways j))
 
-    least-is : least ≡ remainderByWays N D ds ways i j
+    least-is : least ≡ remainderByWays D ds ways i j
     least-is = unfold remainderByWays in ap₂ _-ℤ_ (back less (omega (arith, less-near)) ∙ less-is) (way j)
 
     least-half : least ≡ less -ℤ entryOf ways j
@@ -81,9 +81,9 @@ module _ {N D : ℕ} {ds : List ℕ} {ways : List ℤ} (w : Carrying N D ds ways
     pub least-fits : SFits w64 least
     least-fits = fits-abs least (omega (arith, least-near))
 
-    pub by-ways-back : toZ w64 (ofZ w64 least) ≡ remainderByWays N D ds ways i j
+    pub by-ways-back : toZ w64 (ofZ w64 least) ≡ remainderByWays D ds ways i j
     by-ways-back = back least (omega (arith, least-near)) ∙ least-is
 
   -- as far from 0 as any two ways can bring it
-  pub by-ways-fits : SFits w64 (remainderByWays N D ds ways i j)
-  by-ways-fits = fits-abs (remainderByWays N D ds ways i j) (omega (arith, ap natAbs (least-is (pairPlace N i j) refl), least-near (pairPlace N i j) refl))
+  pub by-ways-fits : SFits w64 (remainderByWays D ds ways i j)
+  by-ways-fits = fits-abs (remainderByWays D ds ways i j) (omega (arith, ap natAbs (least-is (pairPlace i j) refl), least-near (pairPlace i j) refl))

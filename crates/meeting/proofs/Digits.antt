@@ -1,15 +1,17 @@
 -- The lowest strain of a mask. The idea: digit by digit from the lowest. Where the lowest digit is set, taking it off leaves the others;
--- where it is not, the law for the other digits is the law for all.
+-- where it is not, the law for the other digits is the law for all. `off`: the digits that m shares with m - 1 are m's without its lowest.
 use mathlib.Core.Path.{_≡_, refl, sym, ap, ap₂, _∙_}
 use mathlib.Core.Bool.{true, false}
 use mathlib.Core.Logic.{_≢_}
-use Prim.Native.Nat.{ℕ, zero, suc, _-_, _*_, _/_, _%_, _^_, _≤_, _<_}
+use Prim.Native.Nat.{ℕ, zero, suc, _+_, _-_, _*_, _/_, _%_, _^_, _≤_, _<_, min}
 use native.Mathlib.Decide.{ℕ-discrete}
-use native.Mathlib.Nat.{pow-suc, pow-succ', div-div-eq-div-mul, div-one}
+use native.Mathlib.Nat.{pow-suc, pow-succ', div-div-eq-div-mul, div-one, min-zero, zero-min}
 use native.Mathlib.Omega.{arith}
+use lib.Bits.{bitAnd, and-step, and-self}
 use lib.Count.{ones, ones-step, trailingZeros}
 use lib.Dec.{eqb}
 use lib.IntN.{_+ℤ_, +ℤ-idr}
+use lib.Pow.{pow-pos}
 use Rattle.exact.specs.Sum.{ind}
 use Rattle.exact.proofs.Decide.{by-cases, eq-yes, eq-no}
 use Rattle.exact.proofs.Sum.{ind-no}
@@ -21,6 +23,7 @@ pub record Lows (k m i : ℕ) : Type 0 where
   pub some : 2 ^ i ≤ m
   pub bits : (j : ℕ) → ind (bitAt m j) ≡ ind (bitAt (m - 2 ^ i) j) +ℤ ind (eqb j i)
   pub fewer : ones m ≡ suc (ones (m - 2 ^ i))
+  pub off : bitAnd m (m - 1) ≡ m - 2 ^ i
 
 -- the digits above the lowest
 bit-suc : (m j : ℕ) → bitAt m (suc j) ≡ bitAt (m / 2) j
@@ -44,11 +47,13 @@ none-set = refl
 low-odd : (k m : ℕ) → m % 2 ≡ 1 → Lows (suc k) m 0
 low-odd k m e =
     let half : (m - 1) / 2 ≡ m / 2 = omega arith in
+    let even : (m - 1) % 2 ≡ 0 = omega arith in
     record {
       within = omega arith;
       some = omega arith;
       bits = at half;
       fewer = omega (arith, ones-step m, ones-step (m - 1), ap ones half);
+      off = and-step m (m - 1) ∙ ap₂ (λ (x y : ℕ). x * 2 + y) (ap (bitAnd (m / 2)) half ∙ and-self (m / 2)) (ap (min (m % 2)) even ∙ min-zero (m % 2)) ∙ omega arith;
     }
   where
     at : (m - 1) / 2 ≡ m / 2 → (j : ℕ) → ind (bitAt m j) ≡ ind (bitAt (m - 1) j) +ℤ ind (eqb j 0)
@@ -60,11 +65,13 @@ low-even : (k m i : ℕ) → m % 2 ≡ 0 → Lows k (m / 2) i → Lows (suc k) m
 low-even k m i e h =
     let twice : 2 ^ suc i ≡ 2 ^ i * 2 = pow-suc 2 i in
     let half : (m - 2 ^ suc i) / 2 ≡ m / 2 - 2 ^ i = omega (arith, twice, h .some) in
+    let less : (m - 1) / 2 ≡ m / 2 - 1 = omega (arith, h .some, pow-pos i) in
     record {
       within = omega (arith, h .within);
       some = omega (arith, twice, h .some);
       bits = at twice half;
       fewer = omega (arith, ones-step m, ones-step (m - 2 ^ suc i), ap ones half, h .fewer, h .some, twice);
+      off = and-step m (m - 1) ∙ ap₂ (λ (x y : ℕ). x * 2 + y) (ap (bitAnd (m / 2)) less ∙ h .off) (ap (λ (x : ℕ). min x ((m - 1) % 2)) e ∙ zero-min ((m - 1) % 2)) ∙ omega (arith, twice, h .some);
     }
   where
     at : 2 ^ suc i ≡ 2 ^ i * 2 → (m - 2 ^ suc i) / 2 ≡ m / 2 - 2 ^ i → (j : ℕ) → ind (bitAt m j) ≡ ind (bitAt (m - 2 ^ suc i) j) +ℤ ind (eqb j (suc i))

@@ -22,7 +22,7 @@ use Rattle.meeting.proofs.Masked.{over-none, over-low, over-cong, over-
 
 -- what strain j adds at edge v: its remainders with the strains of the mask
 abbrev pub meeting : ℕ → ℕ → List ℕ → List ℤ → ℕ → ℕ → (ℕ → ℕ) → ℕ → ℕ → ℤ
-meeting N D ds ways there m par v j = over there (λ i. (bit par v i +ℤ bit par v j -ℤ pos 2 *ℤ bit par v m) *ℤ remainderByWays N D ds ways i j)
+meeting N D ds ways there m par v j = over there (λ i. (bit par v i +ℤ bit par v j -ℤ pos 2 *ℤ bit par v m) *ℤ remainderByWays D ds ways i j)
 
 pub record Joining (N D : ℕ) (ds : List ℕ) (ways : List ℤ) (here there m : ℕ) (old : List ℤ) (left : ℕ) (now : List ℤ) : Type 0 where
   pub size : length now ≡ maxVertices
@@ -69,13 +69,13 @@ module _ {N D : ℕ} {ds : List ℕ} {ways : List ℤ} {here there m : ℕ} {old
       give-room = omega (arith, p .more, join-room, ap natAbs ey)
 
       -- the row at its strains and what is given to j and m
-      whole-row : (par : ℕ → ℕ) (v : ℕ) → over there (λ i. bit par v i *ℤ remainderByWays N D ds ways i j) +ℤ (bit par v j -ℤ pos 2 *ℤ bit par v m) *ℤ over there (λ i. remainderByWays N D ds ways i j)
+      whole-row : (par : ℕ → ℕ) (v : ℕ) → over there (λ i. bit par v i *ℤ remainderByWays D ds ways i j) +ℤ (bit par v j -ℤ pos 2 *ℤ bit par v m) *ℤ over there (λ i. remainderByWays D ds ways i j)
           ≡ meeting N D ds ways there m par v j
-      whole-row par v = ap (λ z. over there (λ i. bit par v i *ℤ remainderByWays N D ds ways i j) +ℤ z) (sym (over-* there (bit par v j -ℤ pos 2 *ℤ bit par v m) (λ i. remainderByWays N D ds ways i j)))
-          ∙ sym (over-+ there (λ i. bit par v i *ℤ remainderByWays N D ds ways i j) (λ i. (bit par v j -ℤ pos 2 *ℤ bit par v m) *ℤ remainderByWays N D ds ways i j))
-          ∙ over-cong there (λ i. bit par v i *ℤ remainderByWays N D ds ways i j +ℤ (bit par v j -ℤ pos 2 *ℤ bit par v m) *ℤ remainderByWays N D ds ways i j)
-          (λ i. (bit par v i +ℤ bit par v j -ℤ pos 2 *ℤ bit par v m) *ℤ remainderByWays N D ds ways i j)
-          (λ i _. by-ring (bit par v i ∷ bit par v j ∷ bit par v m ∷ remainderByWays N D ds ways i j ∷ []) (search quote depth 20) tt)
+      whole-row par v = ap (λ z. over there (λ i. bit par v i *ℤ remainderByWays D ds ways i j) +ℤ z) (sym (over-* there (bit par v j -ℤ pos 2 *ℤ bit par v m) (λ i. remainderByWays D ds ways i j)))
+          ∙ sym (over-+ there (λ i. bit par v i *ℤ remainderByWays D ds ways i j) (λ i. (bit par v j -ℤ pos 2 *ℤ bit par v m) *ℤ remainderByWays D ds ways i j))
+          ∙ over-cong there (λ i. bit par v i *ℤ remainderByWays D ds ways i j +ℤ (bit par v j -ℤ pos 2 *ℤ bit par v m) *ℤ remainderByWays D ds ways i j)
+          (λ i. (bit par v i +ℤ bit par v j -ℤ pos 2 *ℤ bit par v m) *ℤ remainderByWays D ds ways i j)
+          (λ i _. by-ring (bit par v i ∷ bit par v j ∷ bit par v m ∷ remainderByWays D ds ways i j ∷ []) (search quote depth 20) tt)
 
       pub join-turn : {new : List ℤ} → Given j m y mid new → Joining N D ds ways here there m old (r .rest) new
       join-turn g = record {
@@ -84,7 +84,7 @@ module _ {N D : ℕ} {ds : List ℕ} {ways : List ℤ} {here there m : ℕ} {old
         more = omega (arith, g .more, p .more, ap natAbs ey, t .more, product);
         entries = λ par v. ap (λ z. z +ℤ over (r .rest) (meeting N D ds ways there m par v))
             (g .entries par v ∙ ap₂ (λ a b. a +ℤ (bit par v j -ℤ pos 2 *ℤ bit par v m) *ℤ b) (p .entries par v) (ey ∙ p .whole))
-            ∙ by-ring (under par now v ∷ over there (λ i. bit par v i *ℤ remainderByWays N D ds ways i j) ∷ bit par v j ∷ bit par v m ∷ over there (λ i. remainderByWays N D ds ways i j) ∷ over (r .rest) (meeting N D ds ways there m par v) ∷ []) (search quote depth 20) tt
+            ∙ by-ring (under par now v ∷ over there (λ i. bit par v i *ℤ remainderByWays D ds ways i j) ∷ bit par v j ∷ bit par v m ∷ over there (λ i. remainderByWays D ds ways i j) ∷ over (r .rest) (meeting N D ds ways there m par v) ∷ []) (search quote depth 20) tt
             ∙ ap (λ z. under par now v +ℤ (z +ℤ over (r .rest) (meeting N D ds ways there m par v))) (whole-row par v)
             ∙ ap (λ z. under par now v +ℤ z) (sym (over-low left r w (meeting N D ds ways there m par v)))
             ∙ t .entries par v;

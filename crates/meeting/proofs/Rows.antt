@@ -25,17 +25,17 @@ use Rattle.meeting.proofs.Putting.{put-under, put-room, mass-put}
 pub record Rowing (N D : ℕ) (ds : List ℕ) (ways : List ℤ) (there j : ℕ) (old : List ℤ) (left : ℕ) (whole : ℤ) (now : List ℤ) : Type 0 where
   pub size : length now ≡ maxVertices
   pub inside : (i : ℕ) → bitAt left i ≡ true → bitAt there i ≡ true
-  pub total : whole +ℤ over left (λ i. remainderByWays N D ds ways i j) ≡ over there (λ i. remainderByWays N D ds ways i j)
+  pub total : whole +ℤ over left (λ i. remainderByWays D ds ways i j) ≡ over there (λ i. remainderByWays D ds ways i j)
   pub more : mass maxVertices now + 3 * natAbs whole + pairMass * ones left ≤ mass maxVertices old + pairMass * ones there
-  pub entries : (par : ℕ → ℕ) (v : ℕ) → under par now v +ℤ over left (λ i. bit par v i *ℤ remainderByWays N D ds ways i j)
-      ≡ under par old v +ℤ over there (λ i. bit par v i *ℤ remainderByWays N D ds ways i j)
+  pub entries : (par : ℕ → ℕ) (v : ℕ) → under par now v +ℤ over left (λ i. bit par v i *ℤ remainderByWays D ds ways i j)
+      ≡ under par old v +ℤ over there (λ i. bit par v i *ℤ remainderByWays D ds ways i j)
 
 module _ {N D : ℕ} {ds : List ℕ} {ways : List ℤ} {there j : ℕ} {old : List ℤ} where
   pub row-start : length old ≡ maxVertices → Rowing N D ds ways there j old there (pos 0) old
   row-start e = record {
     size = e;
     inside = λ i h. h;
-    total = +ℤ-idl (over there (λ i. remainderByWays N D ds ways i j));
+    total = +ℤ-idl (over there (λ i. remainderByWays D ds ways i j));
     more = omega arith;
     entries = λ par v. refl;
   }
@@ -43,9 +43,9 @@ module _ {N D : ℕ} {ds : List ℕ} {ways : List ℤ} {there j : ℕ} {old : Li
   pub row-end : {left : ℕ} {whole : ℤ} {now : List ℤ} → left ≡ 0 → Rowing N D ds ways there j old left whole now → Rowed N D ds ways there j whole old now
   row-end {left} {whole} {now} e t = record {
     size = t .size;
-    whole = none whole (λ i. remainderByWays N D ds ways i j) ∙ t .total;
+    whole = none whole (λ i. remainderByWays D ds ways i j) ∙ t .total;
     more = omega (arith, t .more);
-    entries = λ par v. none (under par now v) (λ i. bit par v i *ℤ remainderByWays N D ds ways i j) ∙ t .entries par v;
+    entries = λ par v. none (under par now v) (λ i. bit par v i *ℤ remainderByWays D ds ways i j) ∙ t .entries par v;
   }
     where
       none : (y : ℤ) (f : ℕ → ℤ) → y ≡ y +ℤ over left f
@@ -60,10 +60,10 @@ module _ {N D : ℕ} {ds : List ℕ} {ways : List ℤ} {there j : ℕ} {old : Li
     pub strain-in : bitAt there i ≡ true
     strain-in = t .inside i (low-in left r w)
 
-    by-ways-near : natAbs (remainderByWays N D ds ways i j) ≤ largestRemainder
+    by-ways-near : natAbs (remainderByWays D ds ways i j) ≤ largestRemainder
     by-ways-near = apart .near i strain-in
 
-    module _ {x : ℤ} (ex : x ≡ remainderByWays N D ds ways i j) where
+    module _ {x : ℤ} (ex : x ≡ remainderByWays D ds ways i j) where
       pub row-room : (natAbs (entryOf now i +ℤ x) < 2 ^ 63) × (natAbs (entryOf now i) < 2 ^ 63)
       row-room = put-room maxVertices now i x (omega (arith, w .within)) (omega (arith, ap natAbs ex, by-ways-near, t .more, w .fewer, room))
 
@@ -77,12 +77,12 @@ module _ {N D : ℕ} {ds : List ℕ} {ways : List ℤ} {there j : ℕ} {old : Li
       row-turn {new} p = let s = back (whole +ℤ x) sum-near in record {
         size = p .size;
         inside = λ k h. t .inside k (rest-in left r w k h);
-        total = ap₂ (λ y z. y +ℤ z) s refl ∙ ap (λ y. whole +ℤ y +ℤ over (r .rest) (λ k. remainderByWays N D ds ways k j)) ex
-            ∙ by-ring (whole ∷ remainderByWays N D ds ways i j ∷ over (r .rest) (λ k. remainderByWays N D ds ways k j) ∷ []) (search quote depth 20) tt
-            ∙ ap (λ y. whole +ℤ y) (sym (over-low left r w (λ k. remainderByWays N D ds ways k j))) ∙ t .total;
+        total = ap₂ (λ y z. y +ℤ z) s refl ∙ ap (λ y. whole +ℤ y +ℤ over (r .rest) (λ k. remainderByWays D ds ways k j)) ex
+            ∙ by-ring (whole ∷ remainderByWays D ds ways i j ∷ over (r .rest) (λ k. remainderByWays D ds ways k j) ∷ []) (search quote depth 20) tt
+            ∙ ap (λ y. whole +ℤ y) (sym (over-low left r w (λ k. remainderByWays D ds ways k j))) ∙ t .total;
         more = omega (arith, ap natAbs s, natAbs-add whole x, ap natAbs ex, by-ways-near, mass-put i x now new p maxVertices, t .more, w .fewer);
-        entries = λ par v. ap (λ y. y +ℤ over (r .rest) (λ k. bit par v k *ℤ remainderByWays N D ds ways k j)) (put-under par i x now new (omega (arith, w .within)) p v)
-            ∙ ap (λ y. under par now v +ℤ bit par v i *ℤ y +ℤ over (r .rest) (λ k. bit par v k *ℤ remainderByWays N D ds ways k j)) ex
-            ∙ by-ring (under par now v ∷ bit par v i ∷ remainderByWays N D ds ways i j ∷ over (r .rest) (λ k. bit par v k *ℤ remainderByWays N D ds ways k j) ∷ []) (search quote depth 20) tt
-            ∙ ap (λ y. under par now v +ℤ y) (sym (over-low left r w (λ k. bit par v k *ℤ remainderByWays N D ds ways k j))) ∙ t .entries par v;
+        entries = λ par v. ap (λ y. y +ℤ over (r .rest) (λ k. bit par v k *ℤ remainderByWays D ds ways k j)) (put-under par i x now new (omega (arith, w .within)) p v)
+            ∙ ap (λ y. under par now v +ℤ bit par v i *ℤ y +ℤ over (r .rest) (λ k. bit par v k *ℤ remainderByWays D ds ways k j)) ex
+            ∙ by-ring (under par now v ∷ bit par v i ∷ remainderByWays D ds ways i j ∷ over (r .rest) (λ k. bit par v k *ℤ remainderByWays D ds ways k j) ∷ []) (search quote depth 20) tt
+            ∙ ap (λ y. under par now v +ℤ y) (sym (over-low left r w (λ k. bit par v k *ℤ remainderByWays D ds ways k j))) ∙ t .entries par v;
       }

@@ -11,7 +11,7 @@ use lib.IntN.{ℤ, pos, natAbs, _+ℤ_, _-ℤ_, _*ℤ_}
 use lib.ListN.{length, getD}
 use Rattle.exact.specs.Sum.{sum, ind}
 use Rattle.matrix.specs.Limits.{maxStrains, maxDistance}
-use Rattle.matrix.specs.Place.{pairCount, pairPlace}
+use Rattle.matrix.specs.Place.{pairCount, distanceOf}
 use Rattle.lengths.specs.Limits.{maxDenominator, maxNumerator}
 use Rattle.trees.specs.Limits.{maxEdges, maxVertices}
 use Rattle.trees.specs.Chain.{below}
@@ -52,8 +52,8 @@ pub record Carried (here : ℕ) (x : ℤ) (old new : List ℤ) : Type 0 where
 
 -- ---- pairs
 -- D times the distance of a pair, less the ways of its two strains: its remainder, where the ways are those up to where its path turns
-unfoldable pub remainderByWays : ℕ → ℕ → List ℕ → List ℤ → ℕ → ℕ → ℤ
-remainderByWays N D ds ways i j = pos D *ℤ pos (getD ds (pairPlace N i j) 0) -ℤ entryOf ways i -ℤ entryOf ways j
+unfoldable pub remainderByWays : ℕ → List ℕ → List ℤ → ℕ → ℕ → ℤ
+remainderByWays D ds ways i j = pos D *ℤ distanceOf ds i j -ℤ entryOf ways i -ℤ entryOf ways j
 
 -- what this needs of the tables
 pub record Carrying (N D : ℕ) (ds : List ℕ) (ways : List ℤ) : Type 0 where
@@ -66,19 +66,19 @@ pub record Carrying (N D : ℕ) (ds : List ℕ) (ways : List ℤ) : Type 0 where
 -- strain j is none of the mask's, and what is worked from their ways is a remainder's size
 pub record Apart (N D : ℕ) (ds : List ℕ) (ways : List ℤ) (there j : ℕ) : Type 0 where
   pub strains : (i : ℕ) → bitAt there i ≡ true → (i < N) × (j < N) × (i ≢ j)
-  pub near : (i : ℕ) → bitAt there i ≡ true → natAbs (remainderByWays N D ds ways i j) ≤ largestRemainder
+  pub near : (i : ℕ) → bitAt there i ≡ true → natAbs (remainderByWays D ds ways i j) ≤ largestRemainder
 
 -- the remainder of strain j with each strain of the mask is put at that strain, and together they come to r
 pub record Rowed (N D : ℕ) (ds : List ℕ) (ways : List ℤ) (there j : ℕ) (r : ℤ) (old new : List ℤ) : Type 0 where
   pub size : length new ≡ maxVertices
-  pub whole : r ≡ over there (λ i. remainderByWays N D ds ways i j)
+  pub whole : r ≡ over there (λ i. remainderByWays D ds ways i j)
   pub more : mass maxVertices new + 3 * natAbs r ≤ mass maxVertices old + pairMass * ones there
   pub entries : (par : ℕ → ℕ) (v : ℕ)
-      → under par new v ≡ under par old v +ℤ over there (λ i. ind (below par i v) *ℤ remainderByWays N D ds ways i j)
+      → under par new v ≡ under par old v +ℤ over there (λ i. ind (below par i v) *ℤ remainderByWays D ds ways i j)
 
 -- every pair of a strain of one mask and a strain of the other: its remainder is put at both, and taken off twice at m
 pub record Met (N D : ℕ) (ds : List ℕ) (ways : List ℤ) (here there m : ℕ) (old new : List ℤ) : Type 0 where
   pub size : length new ≡ maxVertices
   pub more : mass maxVertices new ≤ mass maxVertices old + pairMass * (ones here * ones there)
   pub entries : (par : ℕ → ℕ) (v : ℕ) → under par new v ≡ under par old v +ℤ over here (λ j. over there (λ i.
-      (ind (below par i v) +ℤ ind (below par j v) -ℤ pos 2 *ℤ ind (below par m v)) *ℤ remainderByWays N D ds ways i j))
+      (ind (below par i v) +ℤ ind (below par j v) -ℤ pos 2 *ℤ ind (below par m v)) *ℤ remainderByWays D ds ways i j))

@@ -58,10 +58,9 @@ fn lowest_strain(mask: u64) -> Low
     requires { ⌜ mask ≢ 0 ⌝ }
     ensures { λ r. ⌜ LowestStrain mask r ⌝ }
 {
-    let strain = u64::trailing_zeros(mask) as usize;
     Low {
-        strain,
-        rest: mask - (1u64 << strain),
+        strain: u64::trailing_zeros(mask) as usize,
+        rest: mask & (mask - 1),
     }
 }
 
@@ -99,9 +98,9 @@ fn remainder_by_ways(
 ) -> i64
     requires { ⌜ Carrying n d (now distances) (now ways) ⌝ }
     requires { ⌜ (i < n) × (j < n) × (i ≢ j) ⌝ }
-    ensures { λ r. ⌜ r ≡ remainderByWays n d (now (distances .entry)) (now (ways .entry)) i j ⌝ }
+    ensures { λ r. ⌜ r ≡ remainderByWays d (now (distances .entry)) (now (ways .entry)) i j ⌝ }
 {
-    let far = distances[matrix::pair_place(n, i, j)] as i64;
+    let far = distances[matrix::pair_place(i, j)] as i64;
     d as i64 * far - ways[i] - ways[j]
 }
 

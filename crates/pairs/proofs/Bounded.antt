@@ -8,11 +8,11 @@ use Rattle.fit.proofs.Ranges.{Bounds}
 use Rattle.paths.proofs.Climb.{few-edges}
 use Rattle.pairs.specs.Ready.{Ready, InRange}
 
-pub in-bounds : {N K D : ℕ} {ds ps cs : List ℕ} {ns : List ℤ} → Ready N K D ds ps cs ns → InRange K ns → Bounds K (distance N ds) D (entryOf ns)
+pub in-bounds : {N K D : ℕ} {ds ps cs : List ℕ} {ns : List ℤ} → Ready N K D ds ps cs ns → InRange K ns → Bounds K (distance ds) D (entryOf ns)
 in-bounds {N} w t = record {
   few = few-edges (w .standing);
   one = w .one;
   most = w .most;
-  distances = λ p. w .near (place N (p .0) (p .1));
+  distances = λ p. w .near (place (p .0) (p .1));
   numerators = t .near;
 }

@@ -21,19 +21,19 @@ use Rattle.paths.proofs.Bounds.{farthestPath, path-near}
 use Rattle.pairs.specs.Ready.{Ready, remainderAt}
 
 module _ {N K D : ℕ} {ds ps cs : List ℕ} {ns : List ℤ} (w : Ready N K D ds ps cs ns) (i j : ℕ) (rising : i < j) (strain : j < N) where
-  pub slot : place N i j < length ds
+  pub slot : place i j < length ds
   slot = omega (arith, place-bound N i j rising strain, w .room)
 
   -- the distance of the pair
   abbrev pub far : ℕ
-  far = getD ds (place N i j) 0
+  far = getD ds (place i j) 0
 
   product-small : D * far ≤ maxDenominator * maxDistance
-  product-small = mul-le-mul {n₂ = maxDenominator} {m₂ = maxDistance} (w .most) (w .near (place N i j))
+  product-small = mul-le-mul {n₂ = maxDenominator} {m₂ = maxDistance} (w .most) (w .near (place i j))
 
   -- D times the distance, as it is cast and multiplied
   pub scaled : toZ w64 D *ℤ toZ w64 far ≡ pos D *ℤ pos far
-  scaled = ap₂ _*ℤ_ (back-pos D (omega (arith, w .most))) (back-pos far (omega (arith, w .near (place N i j))))
+  scaled = ap₂ _*ℤ_ (back-pos D (omega (arith, w .most))) (back-pos far (omega (arith, w .near (place i j))))
 
   pub scaled-fits : SFits w64 (pos D *ℤ pos far)
   scaled-fits = fits-abs (pos D *ℤ pos far) (omega (arith, product-small))
@@ -51,6 +51,6 @@ module _ {N K D : ℕ} {ds ps cs : List ℕ} {ns : List ℤ} (w : Ready N K D ds
   remainder-fits = fits-abs (remainderAt N K D ds ps ns (i, j)) (omega (arith, remainder-small))
 
   -- the code's difference, step by step, is the remainder
-  pub worked : (slot′ : ℕ) (walked : ℤ) → slot′ ≡ place N i j → walked ≡ path K (partsPair (parentOf ps)) (entryOf ns) (i, j)
+  pub worked : (slot′ : ℕ) (walked : ℤ) → slot′ ≡ place i j → walked ≡ path K (partsPair (parentOf ps)) (entryOf ns) (i, j)
       → toZ w64 (ofZ w64 (toZ w64 D *ℤ toZ w64 (getD ds slot′ 0))) -ℤ toZ w64 (ofZ w64 walked) ≡ remainderAt N K D ds ps ns (i, j)
   worked slot′ walked e f = rw (e, f, scaled) (ap₂ _-ℤ_ (toZ-ofZ scaled-fits) (toZ-ofZ path-fits))

@@ -27,4 +27,4 @@ pub record InRange (K : ℕ) (ns : List ℤ) : Type 0 where
 
 -- r: the remainder of a pair
 abbrev pub remainderAt : ℕ → ℕ → ℕ → List ℕ → List ℕ → List ℤ → ℕ × ℕ → ℤ
-remainderAt N K D ds ps ns = remainder K (partsPair (parentOf ps)) (distance N ds) (pos D) (entryOf ns)
+remainderAt N K D ds ps ns = remainder K (partsPair (parentOf ps)) (distance ds) (pos D) (entryOf ns)

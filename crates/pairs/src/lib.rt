@@ -40,6 +40,6 @@ pub fn remainder(
     requires { ⌜ (i < j) × (j < n) ⌝ }
     ensures { λ r. ⌜ r ≡ remainderAt n edges d (now (distances .entry)) (now (parents .entry)) (now (numerators .entry)) (i, j) ⌝ }
 {
-    let far = distances[matrix::place(n, i, j)] as i64;
+    let far = distances[matrix::place(i, j)] as i64;
     d as i64 * far - paths::path(n, edges, parents, masks, numerators, i, j)
 }

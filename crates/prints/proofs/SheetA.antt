@@ -10,7 +10,7 @@ use Rattle.exact.specs.LeastSquares.{path, hops}
 use Rattle.exact.specs.Nearest.{nearest}
 use Rattle.exact.specs.Fraction.{divisorIn}
 use Rattle.verdict.specs.Table.{some, first, count}
-use Rattle.matrix.specs.Place.{rowStart, place}
+use Rattle.matrix.specs.Place.{place, pairAt, rowStart, rowPlace}
 use Rattle.trees.specs.Chain.{lift, below, parts}
 use Rattle.resolution.specs.Children.{childTo}
 use Rattle.resolution.specs.Averages.{size, between}
@@ -23,11 +23,11 @@ use Rattle.reading.proofs.Example.{sheetA, bareA}
 use Rattle.prints.specs.Texts.{sheetText, unfittedText}
 
 pub print-of-a : sheetText sheetA ≡ sheet-a
-unfolding sum pairs ind tableFrom path hops nearest some first count rowStart place lift below parts digits fields edgeLines fitText number startOf recordsTests
+unfolding sum pairs ind tableFrom path hops nearest some first count place pairAt rowStart rowPlace lift below parts digits fields edgeLines fitText number startOf recordsTests
 print-of-a = refl
 
 pub print-of-tree-a : unfittedText bareA ≡ tree-a
-unfolding sum pairs ind tableFrom path hops nearest divisorIn some first count rowStart place lift below parts childTo size between digits fields edgeLines resolvedText number startOf recordsTests
+unfolding sum pairs ind tableFrom path hops nearest divisorIn some first count place pairAt rowStart rowPlace lift below parts childTo size between digits fields edgeLines resolvedText number startOf recordsTests
 print-of-tree-a = refl
 
 -- sheet A with the numerator of its last edge 6 in place of 7: "refused 14 edge 0 2"
@@ -35,12 +35,12 @@ abbrev pub sheetOff : List ℕ
 sheetOff = set sheetA 79 6
 
 pub print-of-off : sheetText sheetOff ≡ 114 ∷ 101 ∷ 102 ∷ 117 ∷ 115 ∷ 101 ∷ 100 ∷ 32 ∷ 49 ∷ 52 ∷ 32 ∷ 101 ∷ 100 ∷ 103 ∷ 101 ∷ 32 ∷ 48 ∷ 32 ∷ 50 ∷ 10 ∷ []
-unfolding sum pairs ind tableFrom path hops nearest some first count rowStart place lift below parts digits fields edgeLines fitText number startOf recordsTests
+unfolding sum pairs ind tableFrom path hops nearest some first count place pairAt rowStart rowPlace lift below parts digits fields edgeLines fitText number startOf recordsTests
 print-of-off = refl
 
 -- the empty sheet: "refused 2 byte 0"
 pub print-of-none : sheetText [] ≡ 114 ∷ 101 ∷ 102 ∷ 117 ∷ 115 ∷ 101 ∷ 100 ∷ 32 ∷ 50 ∷ 32 ∷ 98 ∷ 121 ∷ 116 ∷ 101 ∷ 32 ∷ 48 ∷ 10 ∷ []
-unfolding sum pairs ind tableFrom path hops nearest some first count rowStart place lift below parts digits fields edgeLines fitText number startOf recordsTests
+unfolding sum pairs ind tableFrom path hops nearest some first count place pairAt rowStart rowPlace lift below parts digits fields edgeLines fitText number startOf recordsTests
 print-of-none = refl
 
 -- three strains, distances 3 4 5, lengths 1 2 3 over 1: there are as many edges as pairs, and no mean square
@@ -67,5 +67,5 @@ pub print-of-three :
     ++ (108 ∷ 101 ∷ 110 ∷ 103 ∷ 116 ∷ 104 ∷ 32 ∷ 54 ∷ 10 ∷ [])
     ++ (115 ∷ 113 ∷ 117 ∷ 97 ∷ 114 ∷ 101 ∷ 32 ∷ 48 ∷ 32 ∷ 48 ∷ 32 ∷ 49 ∷ 50 ∷ 10 ∷ [])
     ++ (109 ∷ 101 ∷ 97 ∷ 110 ∷ 32 ∷ 110 ∷ 111 ∷ 110 ∷ 101 ∷ 10 ∷ [])
-unfolding sum pairs ind tableFrom path hops nearest some first count rowStart place lift below parts digits fields edgeLines fitText number startOf recordsTests
+unfolding sum pairs ind tableFrom path hops nearest some first count place pairAt rowStart rowPlace lift below parts digits fields edgeLines fitText number startOf recordsTests
 print-of-three = refl

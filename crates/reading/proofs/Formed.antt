@@ -12,7 +12,7 @@ use Rattle.verdict.specs.declared.Place.the-variants.{Nowhere}
 use Rattle.verdict.specs.Answer.{pass, fault, test, _orElse_}
 use Rattle.verdict.proofs.Answers.{orElse-again}
 use Rattle.matrix.specs.Limits.{maxStrains, maxPairs}
-use Rattle.matrix.specs.Place.{pairCount}
+use Rattle.matrix.specs.Place.{pairCount, fromRows}
 use Rattle.matrix.specs.Tests.{matrixTests}
 use Rattle.matrix.proofs.Places.{pairs-few}
 use Rattle.trees.specs.Tests.{treeTests}
@@ -22,7 +22,7 @@ use Rattle.records.specs.Form.{maxSheet, startOf, formTests}
 use Rattle.records.proofs.InTurn.{first-start}
 use Rattle.records.proofs.Formed.{form-short, record-ends, record-long}
 use Rattle.records.proofs.Decoding.{front-is, part-is}
-use Rattle.reading.specs.Holds.{strainsOf, distancesOf, verticesOf, parentsOf}
+use Rattle.reading.specs.Holds.{strainsOf, rowAt, distancesOf, verticesOf, parentsOf}
 use Rattle.reading.specs.Tests.{pairTests}
 
 -- the matrix and the tree: the tree starts at t and ends at l
@@ -64,8 +64,8 @@ module _ {s : List ℕ} {t l : ℕ} (w : Fronted s t l) where
       let g : p ≡ number 2 s 6 * (number 2 s 6 - 1) / 2 = f ∙ ap pairCount e in
       (omega (arith, pairs-few n h), omega (arith, w .matrix, w .tree, w .there))
 
-  pub distances-are : (n p : ℕ) (kept : List ℕ) → n ≡ number 2 s 6 → p ≡ pairCount n → kept ≡ padded 0 maxPairs p (λ k. number 2 s (8 + 2 * k)) → take p kept ≡ distancesOf s
-  distances-are n p kept e f g = front-is 0 maxPairs p _ kept g ∙ ap (λ (k : ℕ). table k (λ i. number 2 s (8 + 2 * i))) (f ∙ ap pairCount e)
+  pub distances-are : (n p : ℕ) (kept : List ℕ) → n ≡ number 2 s 6 → p ≡ pairCount n → kept ≡ padded 0 maxPairs p (fromRows n (λ k. number 2 s (8 + 2 * k))) → take p kept ≡ distancesOf s
+  distances-are n p kept e f g = front-is 0 maxPairs p _ kept g ∙ ap₂ (λ (k m : ℕ). table k (fromRows m (rowAt s))) (f ∙ ap pairCount e) e
 
   pub parents-start : t + 6 + 4 ≤ l
   parents-start = omega (arith, w .tree)

@@ -7,3 +7,4 @@ pub mod Whole
 pub mod Readable
 pub mod Longest
 pub mod Example
+pub mod Rows

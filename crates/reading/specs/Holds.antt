@@ -6,7 +6,7 @@ use lib.Dec.{ltb}
 use lib.IntN.{ℤ}
 use lib.ListN.{getD}
 use Rattle.exact.specs.Table.{table}
-use Rattle.matrix.specs.Place.{pairCount}
+use Rattle.matrix.specs.Place.{pairCount, fromRows}
 use Rattle.endian.specs.Bytes.{number, twos}
 use Rattle.records.specs.Form.{bodyAt, startOf}
 
@@ -14,8 +14,12 @@ use Rattle.records.specs.Form.{bodyAt, startOf}
 abbrev pub strainsOf : List ℕ → ℕ
 strainsOf s = number 2 s (bodyAt 0)
 
+-- the distance at place k of the sheet's rows, and at place k of the matrix
+abbrev pub rowAt : List ℕ → ℕ → ℕ
+rowAt s k = number 2 s (bodyAt 0 + 2 + 2 * k)
+
 abbrev pub distanceAt : List ℕ → ℕ → ℕ
-distanceAt s k = number 2 s (bodyAt 0 + 2 + 2 * k)
+distanceAt s = fromRows (strainsOf s) (rowAt s)
 
 abbrev pub distancesOf : List ℕ → List ℕ
 distancesOf s = table (pairCount (strainsOf s)) (distanceAt s)

@@ -9,13 +9,14 @@ use verdict::Refusal;
 use verdict::Verdict;
 ghost use mathlib.Core.Path.{_≡_};
 ghost use mathlib.Core.Bool.{not};
-ghost use Prim.Native.Nat.{_+_, _-_, _*_, _≤_};
+ghost use Prim.Native.Nat.{_+_, _-_, _*_, _≤_, _<_};
 ghost use lib.Dec.{eqb};
 ghost use lib.IntN.{pos};
 ghost use lib.ListN.{length};
 ghost use Rattle.exact.specs.Table.{table, padded};
 ghost use Rattle.verdict.specs.Answer.{pass, answerOf, test, _orElse_};
-ghost use Rattle.matrix.specs.Limits.{maxPairs};
+ghost use Rattle.matrix.specs.Limits.{maxStrains, maxPairs};
+ghost use Rattle.matrix.specs.Place.{pairCount, fromRows};
 ghost use Rattle.matrix.specs.Tests.{matrixTests};
 ghost use Rattle.trees.specs.Limits.{maxEdges};
 ghost use Rattle.fit.specs.Tests.{postedTests};
@@ -53,16 +54,42 @@ fn no_distances() -> [u16; Matrix::MAX_PAIRS]
     [0; Matrix::MAX_PAIRS]
 }
 
-// The distances that start at `at`, then zeros.
-fn distances(s: &[u8], at: usize, count: usize) -> [u16; Matrix::MAX_PAIRS]
-    requires { ⌜ (count ≤ maxPairs) × (at + 2 * count ≤ length (now s)) ⌝ }
-    ensures { λ r. ⌜ r ≡ padded 0 maxPairs count (λ k. number 2 (now (s .entry)) (at + 2 * k)) ⌝ }
+// Reads the distances of strain j with those before it from the rows that start at `at`. They go behind the `first` ones that
+// are held already, those between the strains before j.
+fn column(
+    s: &[u8],
+    at: usize,
+    n: usize,
+    j: usize,
+    first: usize,
+    held: &mut [u16; Matrix::MAX_PAIRS],
+)
+    requires { ⌜ (0 < j) × (j < n) × (n ≤ maxStrains) × (first ≡ pairCount j) × (at + 2 * pairCount n ≤ length (now s)) ⌝ }
+    requires { ⌜ now held ≡ padded 0 maxPairs first (fromRows n (λ k. number 2 (now s) (at + 2 * k))) ⌝ }
+    ensures { λ _. ⌜ now (held .exit) ≡ padded 0 maxPairs (first + j) (fromRows n (λ k. number 2 (now (s .entry)) (at + 2 * k))) ⌝ }
+{
+    let mut row = matrix::row_place(n, 0, j);
+    held[first] = endian::u16_at(s, at + 2 * row);
+    let mut i = 0;
+    while i + 1 < j {
+        row = matrix::row_below(n, i, j, row);
+        i += 1;
+        held[first + i] = endian::u16_at(s, at + 2 * row);
+    }
+}
+
+// The distances of n strains, whose rows start at `at`, each at its place in the matrix; then zeros.
+fn distances(s: &[u8], at: usize, n: usize, count: usize) -> [u16; Matrix::MAX_PAIRS]
+    requires { ⌜ (n ≤ maxStrains) × (count ≡ pairCount n) × (at + 2 * count ≤ length (now s)) ⌝ }
+    ensures { λ r. ⌜ r ≡ padded 0 maxPairs count (fromRows n (λ k. number 2 (now (s .entry)) (at + 2 * k))) ⌝ }
 {
     let mut held = no_distances();
-    let mut k = 0;
-    while k < count {
-        held[k] = endian::u16_at(s, at + 2 * k);
-        k += 1;
+    let mut j = 1;
+    let mut first = 0;
+    while first < count {
+        column(s, at, n, j, first, &mut held);
+        first += j;
+        j += 1;
     }
     held
 }
@@ -158,14 +185,15 @@ fn held(s: &[u8], count: usize, tree: usize, end: usize) -> Sheet
     ensures { λ r. ⌜ SheetAnswer count (now (s .entry)) r ⌝ }
 {
     let n = endian::u16_at(s, Layout::HEAD) as u32;
-    if n as usize > Matrix::MAX_STRAINS {
+    let strains = n as usize;
+    if strains > Matrix::MAX_STRAINS {
         return refused(Refusal {
             reason: Reason::Strains,
             place: Place::Nowhere,
         });
     }
     let pairs = matrix::pair_count(n) as usize;
-    let measured = distances(s, Layout::HEAD + 2, pairs);
+    let measured = distances(s, Layout::HEAD + 2, strains, pairs);
     let body = tree + Layout::HEAD;
     let of_tree = endian::u16_at(s, body) as u32;
     let parents = body + 4;

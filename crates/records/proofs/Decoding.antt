@@ -60,6 +60,14 @@ module _ {A : Type 0} (d : A) (room n : ℕ) (f : ℕ → A) where
   pub front-there : (kept : List A) → kept ≡ padded d room n f → n ≤ room → n ≤ length kept
   front-there kept e r = omega (arith, ap length e ∙ padded-length r)
 
+-- an array that holds the first k entries goes on from there
+pub decode-of : {A : Type 0} (d : A) (room n : ℕ) (f : ℕ → A) (k : ℕ) (kept : List A) → k ≤ n → k ≤ room → kept ≡ padded d room k f → Decoding d room n f k kept
+decode-of d room n f k kept h r e = record {
+  few = h;
+  size = ap length e ∙ padded-length d room k f r;
+  filled = record { below = λ i l. ap (λ z. getD z i d) e ∙ padded-before d room k f i l; above = λ i l. ap (λ z. getD z i d) e ∙ padded-behind d room k f i l };
+}
+
 -- a part of a list is the table of its entries
 pub part-is : {A : Type 0} (d : A) (s : List A) (a e : ℕ) → a ≤ e → e ≤ length s → take (e - a) (drop a s) ≡ table (e - a) (λ k. getD s (a + k) d)
 part-is d s a e h l =

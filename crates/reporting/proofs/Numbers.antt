@@ -73,10 +73,10 @@ module _ (N : ℕ) (ds ps : List ℕ) (D : ℕ) (ns : List ℤ) (s : Stands N ds
       };
     }
 
-    pub r-same : sumR (pairs N) (length ps) (partsOf ps) (distance N ds) (entryOf ms) ≡ rOf N ds ps D ns
-    r-same = S-cong (pairs-sums N) (λ p. ap (λ (z : ℤ). sq (pos 1000 *ℤ distance N ds p -ℤ z)) (path-cong (length ps) (partsOf ps) (entryOf ms) (roundedOf D ns) entry-is p))
+    pub r-same : sumR (pairs N) (length ps) (partsOf ps) (distance ds) (entryOf ms) ≡ rOf N ds ps D ns
+    r-same = S-cong (pairs-sums N) (λ p. ap (λ (z : ℤ). sq (pos 1000 *ℤ distance ds p -ℤ z)) (path-cong (length ps) (partsOf ps) (entryOf ms) (roundedOf D ns) entry-is p))
 
-    pub r-fits : Fits63 (sumR (pairs N) (length ps) (partsOf ps) (distance N ds) (entryOf ms))
+    pub r-fits : Fits63 (sumR (pairs N) (length ps) (partsOf ps) (distance ds) (entryOf ms))
     r-fits = let (low, high) = r-range N ds ps D ns s in subst Fits63 (sym r-same) (record { low = low; high = ≤-trans high (record { le = tt }) })
 
     pub rounded-is : (after : List ℤ) → after ≡ table (length ps) (entryOf ms) → after ≡ table (length ps) (roundedOf D ns)

@@ -16,7 +16,7 @@ use Rattle.resolution.specs.Formula.{edgeLength}
 
 -- the length of edge v of a matrix ds of N strains and a tree ps
 abbrev pub lengthOf : ℕ → List ℕ → List ℕ → ℕ → Fraction
-lengthOf N ds ps v = edgeLength N (length ps) (parentOf ps) (distance N ds) v
+lengthOf N ds ps v = edgeLength N (length ps) (parentOf ps) (distance ds) v
 
 -- its numerator and its denominator in lowest terms
 abbrev pub topOf : ℕ → List ℕ → List ℕ → ℕ → ℤ
@@ -31,7 +31,7 @@ thousandthOf N ds ps v = nearest (bottomOf N ds ps v) (topOf N ds ps v)
 
 -- R
 abbrev pub squareOf : ℕ → List ℕ → List ℕ → ℤ
-squareOf N ds ps = sumR (pairs N) (length ps) (partsOf ps) (distance N ds) (thousandthOf N ds ps)
+squareOf N ds ps = sumR (pairs N) (length ps) (partsOf ps) (distance ds) (thousandthOf N ds ps)
 
 -- n over D are the fractions num over den of K edges, over one denominator
 pub record Over (K : ℕ) (num : ℕ → ℤ) (den : ℕ → ℕ) (D : ℤ) (n : ℕ → ℤ) : Type 0 where
@@ -41,9 +41,9 @@ pub record Over (K : ℕ) (num : ℕ → ℤ) (den : ℕ → ℕ) (D : ℤ) (n :
 -- RULES, The verdict and Least squares, of lengths over one denominator: every edge's sum of remainders is zero, the
 -- fit is a minimum, and the rounding to thousandths is close to it
 pub record Fits (N : ℕ) (ds ps : List ℕ) (D : ℤ) (n : ℕ → ℤ) : Type 0 where
-  pub equations : Equations (pairs N) (length ps) (partsOf ps) (distance N ds) D n
-  pub minimum : Minimum (pairs N) (length ps) (partsOf ps) (distance N ds) D n Any
-  pub rounding : Rounding (pairs N) (length ps) (partsOf ps) (distance N ds) D n (thousandthOf N ds ps) Any
+  pub equations : Equations (pairs N) (length ps) (partsOf ps) (distance ds) D n
+  pub minimum : Minimum (pairs N) (length ps) (partsOf ps) (distance ds) D n Any
+  pub rounding : Rounding (pairs N) (length ps) (partsOf ps) (distance ds) D n (thousandthOf N ds ps) Any
 
 -- no denominator is larger
 abbrev pub maxBottom : ℕ

@@ -56,7 +56,7 @@ module _ (N : ℕ) (ds ps : List ℕ) (posted : Posted N ds ps) (passed : degree
   par = parentOf ps
 
   abbrev d : ℕ × ℕ → ℤ
-  d = distance N ds
+  d = distance ds
 
   ok : Allowed N K par
   ok = posted .tree
@@ -65,7 +65,7 @@ module _ (N : ℕ) (ds ps : List ℕ) (posted : Posted N ds ps) (passed : degree
   res = resolved N K par (first-pass _ _ _ (λ w. refuses 25 (Vertex w)) passed)
 
   range : (p : ℕ × ℕ) → (pos 0 ≤ᶻ d p) × (d p ≤ᶻ pos maxDistance)
-  range p = (nn-pos (getD ds (place N (p .0) (p .1)) 0), pos-≤ (near (posted .matrix) (place N (p .0) (p .1))))
+  range p = (nn-pos (getD ds (place (p .0) (p .1)) 0), pos-≤ (near (posted .matrix) (place (p .0) (p .1))))
 
   pub direct : Direct N ds ps
   direct = record {

@@ -13,7 +13,7 @@ use Rattle.exact.specs.Nearest.{nearest}
 use Rattle.verdict.specs.Answer.{number, fault}
 use Rattle.verdict.specs.declared.Place.the-variants.{Vertex}
 use Rattle.verdict.specs.Table.{some, first, count}
-use Rattle.matrix.specs.Place.{rowStart, place}
+use Rattle.matrix.specs.Place.{place}
 use Rattle.trees.specs.Chain.{lift, below, parts}
 use Rattle.fit.specs.Figures.{distancesA, parentsA, starOf, same, sameList}
 use Rattle.fit.specs.Quantities.{hOf}
@@ -33,9 +33,9 @@ fits =
     && eqb (number (resolvedTests 4 distancesA parentsA)) 0
 
 pub sheet-a : fits ≡ true
-unfolding sum pairs ind tableFrom path hops nearest some first count rowStart place lift below parts divisorIn childTo size between
+unfolding sum pairs ind tableFrom path hops nearest some first count place lift below parts divisorIn childTo size between
 sheet-a = refl
 
 pub star : resolvedTests 4 distancesA (starOf 4) ≡ fault 25 (Vertex 4)
-unfolding sum pairs ind tableFrom path hops nearest some first count rowStart place lift below parts divisorIn childTo size between
+unfolding sum pairs ind tableFrom path hops nearest some first count place lift below parts divisorIn childTo size between
 star = refl

@@ -16,7 +16,7 @@ use Rattle.verdict.specs.declared.Reason.the-variants.{Buffer}
 use Rattle.verdict.specs.declared.Verdict.the-variants.{Accepted, Refused}
 use Rattle.verdict.specs.declared.Verdict.{Verdict}
 use Rattle.verdict.proofs.Answers.{orElse-pass, orElse-assoc, refused-row, accepted-row, not-pass}
-use Rattle.matrix.specs.Place.{pairCount, place}
+use Rattle.matrix.specs.Place.{pairCount, rowPlace}
 use Rattle.trees.specs.Allowed.{Allowed}
 use Rattle.trees.specs.Chain.{parentOf}
 use Rattle.trees.specs.Tests.{treeTests}
@@ -98,7 +98,7 @@ module _ (N : ℕ) (ps : List ℕ) (D : ℕ) (ns before : List ℤ) (v : Verdict
     paths-buffer h = paths-left no-room (wrong-size (length before) (pairCount N) h ∙ paths-number)
 
     pub paths-filled : (after : List ℤ) → length before ≡ pairCount N → length after ≡ length before
-        → ((i j : ℕ) → i < j → j < N → entryOf after (place N i j) ≡ pathOf ps ns (i, j)) → PathsAnswer N ps D ns before after Accepted
+        → ((i j : ℕ) → i < j → j < N → entryOf after (rowPlace N i j) ≡ pathOf ps ns (i, j)) → PathsAnswer N ps D ns before after Accepted
     paths-filled after s c w =
         let number : pass ≡ pathsTests N ps D ns (length before) = right-size (length before) (pairCount N) s ∙ paths-number in
         record { answer = number; size = c; filled = λ _. w; kept = λ h. absurd (h (sym number)) }

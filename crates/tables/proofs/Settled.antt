@@ -13,8 +13,8 @@ use Rattle.exact.proofs.Decide.{by-cases}
 use Rattle.verdict.specs.Answer.{pass, answerOf, test, _orElse_}
 use Rattle.verdict.specs.declared.Verdict.{Verdict}
 use Rattle.verdict.proofs.Answers.{passes, same-answer, orElse-pass, test-pass}
-use Rattle.matrix.specs.Place.{pairCount, place}
-use Rattle.matrix.proofs.Places.{place-onto}
+use Rattle.matrix.specs.Place.{pairCount, rowPlace}
+use Rattle.matrix.proofs.Places.{row-place-onto}
 use Rattle.trees.specs.Tests.{treeTests}
 use Rattle.lengths.specs.Tests.{lengthsTests}
 use Rattle.fit.specs.Tests.{splitTests, pathsTests, bufferOut}
@@ -29,9 +29,9 @@ one-split {N} {ds} {ps} {before} {r = r} {r′ = r′} a b = (
 
 -- two buffers of one entry for each pair that agree at every pair
 same-pairs : (N : ℕ) (l l′ : List ℤ) → length l ≡ pairCount N → length l′ ≡ length l
-    → ((i j : ℕ) → i < j → j < N → getD l (place N i j) (pos 0) ≡ getD l′ (place N i j) (pos 0)) → l ≡ l′
+    → ((i j : ℕ) → i < j → j < N → getD l (rowPlace N i j) (pos 0) ≡ getD l′ (rowPlace N i j) (pos 0)) → l ≡ l′
 same-pairs N l l′ e f h = ext-getD (pos 0) l l′ (sym f) (λ k lt.
-    let at = place-onto N k (omega arith) in
+    let at = row-place-onto N k (omega arith) in
     subst (λ (p : ℕ). getD l p (pos 0) ≡ getD l′ p (pos 0)) (at .there) (h (at .i) (at .j) (at .rising) (at .strain)))
 
 -- what passed has a buffer of the right size

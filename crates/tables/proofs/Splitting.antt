@@ -45,7 +45,7 @@ module _ {ns : List ℤ} (e : ns ≡ table maxEdges (λ _. pos 0)) where
   none-range few = record { room = omega (arith, ap length e, length-table maxEdges (λ (_ : ℕ). pos 0)); near = λ v l. omega (arith, ap natAbs (none v)) }
 
   -- so an edge's sum is its split sum
-  pub none-sum : (N : ℕ) (ds ps : List ℕ) (v : ℕ) → edgeSum (pairs N) (length ps) (partsOf ps) (distance N ds) (pos 1) (entryOf ns) v ≡ splitSum N ds ps v
+  pub none-sum : (N : ℕ) (ds ps : List ℕ) (v : ℕ) → edgeSum (pairs N) (length ps) (partsOf ps) (distance ds) (pos 1) (entryOf ns) v ≡ splitSum N ds ps v
   none-sum N ds ps v = S-cong (pairs-sums N) (λ p. ap (λ (z : ℤ). ind (partsOf ps v p) *ℤ z)
-      (ap (λ (z : ℤ). pos 1 *ℤ distance N ds p -ℤ z) (path-none (length ps) (partsOf ps) (entryOf ns) p none)
-      ∙ once (distance N ds p)))
+      (ap (λ (z : ℤ). pos 1 *ℤ distance ds p -ℤ z) (path-none (length ps) (partsOf ps) (entryOf ns) p none)
+      ∙ once (distance ds p)))

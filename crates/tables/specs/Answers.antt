@@ -7,7 +7,7 @@ use lib.ListN.{length}
 use Rattle.exact.specs.Table.{table, entryOf}
 use Rattle.verdict.specs.Answer.{pass, answerOf}
 use Rattle.verdict.specs.declared.Verdict.{Verdict}
-use Rattle.matrix.specs.Place.{place}
+use Rattle.matrix.specs.Place.{rowPlace}
 use Rattle.trees.specs.EdgeTable.{EdgeTable}
 use Rattle.fit.specs.Quantities.{splitSum, pathOf}
 use Rattle.fit.specs.Tests.{splitTests, pathsTests}
@@ -26,5 +26,5 @@ pub record SplitAnswer (N : ℕ) (ds ps : List ℕ) (before after : List ℤ) (r
 pub record PathsAnswer (N : ℕ) (ps : List ℕ) (D : ℕ) (ns : List ℤ) (before after : List ℤ) (r : Verdict) : Type 0 where
   pub answer : answerOf r ≡ pathsTests N ps D ns (length before)
   pub size : length after ≡ length before
-  pub filled : pathsTests N ps D ns (length before) ≡ pass → (i j : ℕ) → i < j → j < N → entryOf after (place N i j) ≡ pathOf ps ns (i, j)
+  pub filled : pathsTests N ps D ns (length before) ≡ pass → (i j : ℕ) → i < j → j < N → entryOf after (rowPlace N i j) ≡ pathOf ps ns (i, j)
   pub kept : (pathsTests N ps D ns (length before) ≡ pass → ⊥) → after ≡ before

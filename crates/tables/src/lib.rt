@@ -10,7 +10,7 @@ ghost use Prim.Native.Nat.{ℕ, _≤_, _<_};
 ghost use lib.ListN.{length};
 ghost use Rattle.exact.specs.Table.{table, entryOf};
 ghost use Rattle.exact.specs.LeastSquares.{path};
-ghost use Rattle.matrix.specs.Place.{pairCount, place};
+ghost use Rattle.matrix.specs.Place.{pairCount, rowPlace};
 ghost use Rattle.trees.specs.Limits.{maxEdges};
 ghost use Rattle.trees.specs.Chain.{parentOf, partsPair};
 ghost use Rattle.fit.specs.Stands.{Posted};
@@ -80,13 +80,13 @@ fn fill_paths(
     requires { ⌜ Small (length (now parents)) (now numerators) ⌝ }
     requires { ⌜ length (now paths) ≡ pairCount n ⌝ }
     ensures { λ _. ⌜ length (now (paths .exit)) ≡ length (now (paths .entry)) ⌝ }
-    ensures { λ _. ⌜ ((i j : ℕ) → i < j → j < n → entryOf (now (paths .exit)) (place n i j) ≡ path (length (now (parents .entry))) (partsPair (parentOf (now (parents .entry)))) (entryOf (now (numerators .entry))) (i, j)) ⌝ }
+    ensures { λ _. ⌜ ((i j : ℕ) → i < j → j < n → entryOf (now (paths .exit)) (rowPlace n i j) ≡ path (length (now (parents .entry))) (partsPair (parentOf (now (parents .entry)))) (entryOf (now (numerators .entry))) (i, j)) ⌝ }
 {
     let edges = parents.len();
     let mut i = 0;
     let mut j = 1;
     while j < n {
-        let at = matrix::place(n, i, j);
+        let at = matrix::row_place(n, i, j);
         paths[at] = paths::path(n, edges, parents, masks, numerators, i, j);
         let next = pairs::next_pair(i, j);
         i = next.i;

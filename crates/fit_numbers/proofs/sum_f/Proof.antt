@@ -78,7 +78,7 @@ loop-again c = let at = c .before .before .before .before in
 
 -- F at the end
 gathered : (c : tie.After-loop Inv-loop μ-loop) → let a = c .before .before .before .before .args in
-    pos (c .before .loop .acc) ≡ sumF (pairs (a .n)) (a .edges) (partsPair (parentOf (a .parents .now))) (distance (a .n) (a .distances .now)) (pos (a .d)) (entryOf (a .numerators .now))
+    pos (c .before .loop .acc) ≡ sumF (pairs (a .n)) (a .edges) (partsPair (parentOf (a .parents .now))) (distance (a .distances .now)) (pos (a .d)) (entryOf (a .numerators .now))
 gathered c = let l = c .before in
     gathered-is _ _ (l .loop .inv .1) (l .before .before .before .pre .1 .1) (subst (Modulo (l .loop .acc)) (swept-end _ (l .loop .inv .0) (c .loop-test .left)) (l .loop .inv .2))
 

@@ -29,7 +29,7 @@ remainder-by-ways-requires c κs = let l = c .before .before in
 
 -- the number that is put
 told : (c : tie.After-remainder-by-ways Inv-loop μ-loop) → let l = c .before .before .before in let a = l .before .before .args in
-    toZ w64 (ofZ w64 (c .remainder-by-ways .result)) ≡ remainderByWays (a .n) (a .d) (a .distances .now) (a .ways .now) (c .before .lowest-strain .result .strain) (a .j)
+    toZ w64 (ofZ w64 (c .remainder-by-ways .result)) ≡ remainderByWays (a .d) (a .distances .now) (a .ways .now) (c .before .lowest-strain .result .strain) (a .j)
 told c = let l = c .before .before .before in
     let p = l .before .before in
     let low = c .before .lowest-strain in

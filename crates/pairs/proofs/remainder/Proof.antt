@@ -27,7 +27,7 @@ module _ (c : tie.After-place) where
   strain : j < n
   strain = c .before .before .before .pre .1 .1
 
-  same : c .place .result ≡ place n i j
+  same : c .place .result ≡ place i j
   same = c .place .ensures
 
   found : c .place .result < length (c .before .before .before .args .distances .now)

@@ -1,51 +1,44 @@
--- The array is filled from the front; past the distances it keeps its zeros.
+-- A strain's distances a turn; past the last strain's the array keeps its zeros.
 use borrow.Author.Needs.{needs}
 use Prim.Native.Nat.{_+_, _*_, _-_}
 use native.Mathlib.Omega.{arith}
-use Rattle.matrix.specs.Limits.{maxPairs}
+use Rattle.matrix.proofs.Places.{count-room, pairs-few}
 use Rattle.endian.specs.Bytes.{number}
-use Rattle.records.proofs.Decoding.{Decoding, decode-start, decode-turn, decode-end}
+use Rattle.reading.proofs.Rows.{Reading, read-start, strain, read-turn, read-end}
 use Rattle.reading.proofs.distances.Statement.{statement}
 use Rattle.reading.proofs.distances.Tie as tie
 
 abbrev Inv-loop : tie.InvT-loop
-Inv-loop s at count held₀ k₀ held k = Decoding 0 maxPairs count (λ i. number 2 s (at + 2 * i)) k held
+Inv-loop s at n count held₀ j₀ first₀ held j first = Reading n count (λ r. number 2 s (at + 2 * r)) j first held
 
 abbrev μ-loop : tie.MeasureT-loop
-μ-loop s at count held₀ k₀ held k = count - k
+μ-loop s at n count held₀ j₀ first₀ held j first = count - first
 
 no-distances-requires : tie.Need-no-distances-requires Inv-loop μ-loop
 no-distances-requires c κs = search needs
 
 loop-holds : tie.Need-loop-holds Inv-loop μ-loop
-loop-holds c = decode-start 0 maxPairs _ _ _ (c .no-distances .ensures)
+loop-holds c = read-start _ _ _ _ (c .no-distances .ensures)
 
-mul-u16-at : tie.Need-mul-u16-at Inv-loop μ-loop
-mul-u16-at c = search needs
+column-requires : tie.Need-column-requires Inv-loop μ-loop
+column-requires c κs = let t = c .before .before .loop .inv in
+    ((t .some, strain _ _ _ (omega arith) t (omega arith), omega arith, t .begins, omega arith), t .holds)
 
-add-u16-at : tie.Need-add-u16-at Inv-loop μ-loop
-add-u16-at c = search needs
+add-first : tie.Need-add-first Inv-loop μ-loop
+add-first c = let l = c .before .before .before in
+    record { fits = omega (arith, l .loop .inv .begins, count-room (l .before .before .before .args .n) (l .loop .j) (strain _ _ _ (omega arith) (l .loop .inv) (omega arith)), pairs-few (l .before .before .before .args .n) (omega arith)) }
 
-u16-at-requires : tie.Need-u16-at-requires Inv-loop μ-loop
-u16-at-requires c κs = search needs
-
-mul-held : tie.Need-mul-held Inv-loop μ-loop
-mul-held c = search needs
-
-array-write-held : tie.Need-array-write-held Inv-loop μ-loop
-array-write-held c = search needs
-
-add-k : tie.Need-add-k Inv-loop μ-loop
-add-k c = search needs
+add-j : tie.Need-add-j Inv-loop μ-loop
+add-j c = let l = c .before .before .before in record { fits = omega (arith, strain _ _ _ (omega arith) (l .loop .inv) (omega arith)) }
 
 loop-less : tie.Need-loop-less Inv-loop μ-loop
-loop-less c = search needs
+loop-less c = omega (arith, c .before .before .before .loop .inv .some)
 
 loop-again : tie.Need-loop-again Inv-loop μ-loop
-loop-again c = decode-turn 0 maxPairs _ _ (c .before .before .loop .k) _ _ (omega arith) (omega arith) (c .u16-at .ensures) (c .before .before .loop .inv)
+loop-again c = read-turn _ _ _ (omega arith) (c .before .before .before .loop .inv) _ (omega arith) (c .column .ensures)
 
 returns : tie.Need-returns Inv-loop μ-loop
-returns c = decode-end 0 maxPairs _ _ (c .before .loop .k) _ (omega arith) (omega arith) (c .before .loop .inv)
+returns c = read-end _ _ _ (omega arith) (c .before .loop .inv) (omega arith)
 
 pub distances-spec : {M : Type 1} → statement M
 distances-spec =
@@ -55,12 +48,9 @@ distances-spec =
     μ-loop
     no-distances-requires
     loop-holds
-    mul-u16-at
-    add-u16-at
-    u16-at-requires
-    mul-held
-    array-write-held
-    add-k
+    column-requires
+    add-first
+    add-j
     loop-less
     loop-again
     returns)

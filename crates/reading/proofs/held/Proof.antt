@@ -1,15 +1,15 @@
 -- What was read is what the records hold; each refusal comes before what it guards is read.
-use mathlib.Core.Path.{_≡_, refl, sym, ap, _∙_}
+use mathlib.Core.Path.{ap₂, _≡_, refl, sym, ap, _∙_}
 use mathlib.Core.List.{List}
 use Prim.Native.Nat.{ℕ, _+_, _≤_}
 use native.Mathlib.Omega.{arith}
 use lib.ListN.{length, take}
 use Rattle.verdict.specs.Answer.{pass, answerOf}
 use Rattle.matrix.specs.Limits.{maxPairs}
-use Rattle.matrix.specs.Place.{pairCount}
+use Rattle.matrix.specs.Place.{pairCount, fromRows}
 use Rattle.exact.specs.Table.{padded}
 use Rattle.records.proofs.Decoding.{front-there, front-length}
-use Rattle.reading.specs.Holds.{distanceAt, distancesOf, strainsOf}
+use Rattle.reading.specs.Holds.{rowAt, distancesOf, strainsOf}
 use Rattle.reading.specs.Tests.{pairTests}
 use Rattle.reading.proofs.Formed.{Fronted, fronted, pairs-fit, distances-are, parents-start, parents-count, parents-are, pair-is}
 use Rattle.reading.proofs.Answered.{parents-few, many-strains, pair-refused, lengths-refused, all-held}
@@ -49,8 +49,8 @@ u16-at-requires c κs = let w = here c in omega (arith, w .matrix, w .tree, w .t
 cast-n : tie.Need-cast-n
 cast-n c = search needs
 
-cast-if1 : tie.Need-cast-if1
-cast-if1 c = search needs
+cast-strains : tie.Need-cast-strains
+cast-strains c = search needs
 
 refused-requires : tie.Need-refused-requires
 refused-requires c κs = search needs
@@ -67,7 +67,7 @@ add-distances c = search needs
 
 distances-requires : tie.Need-distances-requires
 distances-requires c κs = let n = c .before .before in
-    pairs-fit (here (n .before)) _ _ (n .u16-at .ensures) (c .before .if1 .left) (c .pair-count .ensures)
+    (c .before .if1 .left, c .pair-count .ensures, pairs-fit (here (n .before)) _ _ (n .u16-at .ensures) (c .before .if1 .left) (c .pair-count .ensures) .1)
 
 add-body : tie.Need-add-body
 add-body c = let w = here (c .before .before .before .before) in record { fits = omega (arith, w .tree, w .there, w .short) }
@@ -148,7 +148,7 @@ returns-4 c = let asked = c .before .before .before in
     (record {
       strains = n .u16-at .ensures;
       pairs = pairs;
-      distances = read .distances .ensures ∙ ap (λ (k : ℕ). padded 0 maxPairs k (distanceAt (bytes start))) pairs;
+      distances = read .distances .ensures ∙ ap₂ (λ (k m : ℕ). padded 0 maxPairs k (fromRows m (rowAt (bytes start)))) pairs (n .u16-at .ensures);
       parents = ap (λ (a : ℕ). a + 6 + 4) (here start .tree-at);
       end = here start .end-at;
       denominator = proposed .denominator z;
@@ -162,7 +162,7 @@ held-spec =
     (tie.spec
     u16-at-requires
     cast-n
-    cast-if1
+    cast-strains
     refused-requires
     returns
     pair-count-requires

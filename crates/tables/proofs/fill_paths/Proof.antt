@@ -7,7 +7,7 @@ use lib.IntN.{natAbs}
 use lib.ListN.{length}
 use Rattle.exact.proofs.Sign.{back}
 use Rattle.exact.specs.LeastSquares.{path}
-use Rattle.matrix.proofs.Places.{place-bound}
+use Rattle.matrix.proofs.Places.{row-place-bound}
 use Rattle.trees.specs.Chain.{parentOf, partsPair}
 use Rattle.exact.specs.Table.{entryOf}
 use Rattle.paths.proofs.Bounds.{path-near}
@@ -23,16 +23,16 @@ abbrev μ-loop : tie.MeasureT-loop
 μ-loop n parents masks numerators paths₀ edges i₀ j₀ paths i j = ahead n i j
 
 -- the pair's place is in the buffer
-room : (c : tie.After-path Inv-loop μ-loop) → c .before .place .result < length (c .before .before .before .loop .paths)
+room : (c : tie.After-path Inv-loop μ-loop) → c .before .row-place .result < length (c .before .before .before .loop .paths)
 room c =
     let at = c .before .before in
-    omega (arith, c .before .place .ensures, at .before .loop .inv .size, place-bound _ _ _ (at .before .loop .inv .rising) (at .loop-test .taken))
+    omega (arith, c .before .row-place .ensures, at .before .loop .inv .size, row-place-bound _ _ _ (at .before .loop .inv .rising) (at .loop-test .taken))
 
 loop-holds : tie.Need-loop-holds Inv-loop μ-loop
 loop-holds c = fill-start _ (omega (arith, c .before .pre .0 .allowed .three)) (c .before .pre .1 .1)
 
-place-requires : tie.Need-place-requires Inv-loop μ-loop
-place-requires c κs = search needs
+row-place-requires : tie.Need-row-place-requires Inv-loop μ-loop
+row-place-requires c κs = search needs
 
 path-requires : tie.Need-path-requires Inv-loop μ-loop
 path-requires c κs =
@@ -56,7 +56,7 @@ loop-again c =
     let at = c .before .before .before in
     let S = at .before .before .before .pre .0 .allowed in
     let e = c .before .path .ensures in
-    fill-turn _ _ _ _ _ (c .next-pair .result) (at .loop-test .taken) (c .before .before .place .ensures)
+    fill-turn _ _ _ _ _ (c .next-pair .result) (at .loop-test .taken) (c .before .before .row-place .ensures)
     (back _ (omega (arith, ap natAbs e, path-near (at .before .before .before .pre .1 .0) (omega (arith, S .few, S .most)) (parentOf (at .before .before .before .args .parents .now)) (at .before .loop .i, at .before .loop .j))) ∙ e)
     (c .next-pair .ensures) (at .before .loop .inv)
 
@@ -73,7 +73,7 @@ fill-paths-spec =
     Inv-loop
     μ-loop
     loop-holds
-    place-requires
+    row-place-requires
     path-requires
     mul-t13
     slice-set-from-paths
