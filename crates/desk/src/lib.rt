@@ -6,10 +6,12 @@ use libc::STDIN_FILENO;
 use libc::STDOUT_FILENO;
 use records::Layout;
 ghost use mathlib.Core.Path.{_≡_};
-ghost use Prim.Native.Nat.{_+_, _≤_};
+ghost use mathlib.Core.Bool.{false};
+ghost use Prim.Native.Nat.{ℕ, _+_, _≤_, _<_};
 ghost use lib.ListN.{length};
 ghost use Rattle.io.specs.Counts.{Counts};
 ghost use Rattle.records.specs.Form.{maxSheet};
+ghost use Rattle.desk.specs.Steps.{stepOf};
 
 // What came of reading: how many bytes stand at the front of the buffer, and whether no read failed.
 pub struct Taken {
@@ -24,33 +26,52 @@ pub fn room() -> [u8; Layout::MAX_SHEET + 1]
     [0; Layout::MAX_SHEET + 1]
 }
 
+// What one read came to.
+pub enum Step {
+    Failed,
+    Ended,
+    More(usize),
+}
+
+// The same by the number that the read into a buffer gave.
+fn came_to(got: isize, left: &[u8]) -> Step
+    ensures { λ r. ⌜ r ≡ stepOf got (length (now (left .entry))) ⌝ }
+    ensures { λ r. ⌜ ((m : ℕ) → r ≡ Step.More m → (m ≤ length (now (left .entry))) × (1 ≤ length (now (left .entry)) → 1 ≤ m)) ⌝ }
+{
+    if got < 0 {
+        return Step::Failed;
+    }
+    if got == 0 {
+        return Step::Ended;
+    }
+    Step::More(io::count(got, left))
+}
+
 // Fills a buffer from standard input until it is full, the input ends or a read fails, which it says.
 pub fn take_in(space: &mut [u8]) -> Taken
     ensures { λ r. ⌜ Counts (r .count) (now (space .exit)) ⌝ }
+    ensures { λ r. ⌜ (r .whole ≡ false → r .count < length (now (space .exit))) ⌝ }
 {
     let mut count = 0;
     while count < space.len() {
         let got = libc::read(STDIN_FILENO, &mut space[count..]);
-        if got < 0 {
-            io::write_all(STDERR_FILENO, b"standard input could not be read\n");
-            return Taken {
-                count: count,
-                whole: false,
-            };
+        match came_to(got, &space[count..]) {
+            Step::Failed => {
+                io::write_all(STDERR_FILENO, b"standard input could not be read\n");
+                return Taken {
+                    count,
+                    whole: false,
+                };
+            }
+            Step::Ended => {
+                return Taken { count, whole: true };
+            }
+            Step::More(more) => {
+                count += more;
+            }
         }
-        let more = io::count(got, &space[count..]);
-        if more == 0 {
-            return Taken {
-                count: count,
-                whole: true,
-            };
-        }
-        count += more;
     }
-    Taken {
-        count: count,
-        whole: true,
-    }
+    Taken { count, whole: true }
 }
 
 // Writes so many bytes from the front of a text to standard output, or says that it could not; whether all of them
