@@ -19,7 +19,7 @@ static const char *const words[] = {
     "a record's length does not match its counts",
     "bytes follow the third record",
     "the number of strains is not 3 to 64",
-    "a distance is above 50,000",
+    "a distance is above 50,000 and not the mark of a missing pair",
     "the tree is for another number of strains, or has too few or too many vertices",
     "a parent is not above its child, or is a strain",
     "an inner vertex has too few children",
@@ -29,7 +29,13 @@ static const char *const words[] = {
     "the lengths are not the fit: for some edge observed and tree distance differ in sum",
     "a lent buffer does not have the exact length",
     "a parent is past the root",
+    [VAMUTHEXA_UNMEASURED] = "an edge parts no pair that was measured",
 };
+
+/* The words for a number. 17 to 25 are never given for a sheet with lengths. */
+static const char *words_for(uint32_t number) {
+    return number < sizeof words / sizeof words[0] && words[number] != NULL ? words[number] : "unknown";
+}
 
 /* One byte more than a sheet may have is enough to know that it is too long. */
 enum { READ_AT_MOST = 5188 };
@@ -61,7 +67,7 @@ static int show(const char *name, int whole) {
         printf("%s: %s\n", name, words[0]);
         return 0;
     }
-    printf("%s: refused %u, %s\n", name, (unsigned)number, number < sizeof words / sizeof words[0] ? words[number] : "unknown");
+    printf("%s: refused %u, %s\n", name, (unsigned)number, words_for(number));
     return 1;
 }
 

@@ -11,6 +11,9 @@
 extern "C" {
 #endif
 
+/* In a matrix: nobody measured this pair. Any pair may be missing, as long as every edge parts one that is not. */
+enum { VAMUTHEXA_MISSING = 65535 };
+
 enum vamuthexa_number {
     VAMUTHEXA_ACCEPTED = 0,
     VAMUTHEXA_SHEET_TOO_LONG = 1, /* sheet above 5,187 bytes */
@@ -19,7 +22,7 @@ enum vamuthexa_number {
     VAMUTHEXA_WRONG_COUNTS = 4,   /* body too short for its counts, V = 0, or length not as they say */
     VAMUTHEXA_BYTES_LEFT = 5,     /* bytes after the third record */
     VAMUTHEXA_STRAINS = 6,        /* matrix N not 3 to 64 */
-    VAMUTHEXA_DISTANCE = 7,       /* a distance above 50,000 */
+    VAMUTHEXA_DISTANCE = 7,       /* a distance above 50,000 that is not 65,535, the mark of a missing pair */
     VAMUTHEXA_VERTICES = 8,       /* the tree's N differs from the matrix's, or V not N+1 to 2N-2 */
     VAMUTHEXA_PARENT = 9,         /* a parent not greater than its child or below N */
     VAMUTHEXA_CHILDREN = 10,      /* an inner vertex with too few children */
@@ -29,7 +32,8 @@ enum vamuthexa_number {
     VAMUTHEXA_REMAINDERS = 14,    /* some edge's sum of remainders is not zero: not the fit */
     VAMUTHEXA_BUFFER = 15,        /* a lent result buffer not of the exact length; never for a sheet */
     VAMUTHEXA_PAST_ROOT = 16,     /* a parent above V-1; of 9 and 16 the one at the lowest vertex */
-    VAMUTHEXA_UNRESOLVED = 25     /* some inner vertex not of degree three; never for a sheet with lengths */
+    VAMUTHEXA_UNRESOLVED = 25,    /* some inner vertex not of degree three; never for a sheet with lengths */
+    VAMUTHEXA_UNMEASURED = 26     /* an edge that parts no measured pair; for the direct fit, any missing pair */
 };
 
 /* The number of the sheet in the bytes at `sheet`; `length` may be 0. */
@@ -52,9 +56,9 @@ size_t unfitted_print(const uint8_t *sheet, size_t length, uint8_t *text, size_t
  * many entries it has: n(n-1)/2 distances, one parent for each of K edges, and three buffers of K entries for the
  * numerators and denominators in lowest terms and for the lengths in thousandths. The distance of strains i and j, with i
  * below j, stands at distances[j(j-1)/2 + i], so the order is 01, 02, 12, 03, 13, 23, .. and a strain more appends; a
- * sheet has its distances in rows, 01, 02, .., 0(n-1), 12, .. The number is 4, 6 to 10, 16, 25 or 15, or 0 where the
- * buffers are filled; otherwise they are as they were. No buffer may overlap another, nor a table that is lent beside
- * it. Link with libresolving.a. */
+ * sheet has its distances in rows, 01, 02, .., 0(n-1), 12, .. No pair may be missing. The number is 4, 6 to 10, 16, 25, 26
+ * or 15, or 0 where the buffers are filled; otherwise they are as they were. No buffer may overlap another, nor a table
+ * that is lent beside it. Link with libresolving.a. */
 uint32_t resolved_lengths(uint32_t n, const uint16_t *distances, size_t distance_count, const uint8_t *parents,
                           size_t parent_count, int64_t *numerators, size_t numerator_count, uint32_t *denominators,
                           size_t denominator_count, int64_t *rounded, size_t rounded_count);

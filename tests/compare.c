@@ -1,5 +1,5 @@
 /* Compares `sheet_verdict` and `sheet_print` with the two plain readings on many sheets: empty, every length, valid,
- * cut, one byte changed, fields at and past their limits. The print of a refused sheet must be the plain readings'
+ * cut, one byte changed, fields at and past their limits, and matrices with pairs that nobody measured. The print of a refused sheet must be the plain readings'
  * line, place and all; of an accepted one only its first word and its last byte are looked at here (the program
  * `figures` compares whole reports). Each sheet, and the text's page, is lent at the very end of a page that is
  * followed by one that cannot be read, so that a step past the slice ends the program. */
@@ -14,10 +14,11 @@
 
 enum { ROOM = 65536 };
 
-enum { NUMBERS = 17, UNTOUCHED = 0xa5 };
+enum { NUMBERS = 27, UNTOUCHED = 0xa5, MISSING = 65535 };
 
 static uint8_t *edge, *text_end; /* the first bytes that cannot be read */
 static unsigned long passed, failed, seen[NUMBERS];
+static unsigned long incomplete, incomplete_seen[NUMBERS], unseen_at[128]; /* sheets with missing pairs; 26 by its edge */
 
 /* Every byte from `from` on is as it was before the print. */
 static int untouched(const uint8_t *text, size_t from, size_t size) {
@@ -50,7 +51,7 @@ static int leaves(const uint8_t *lent, size_t length, size_t size) {
     return sheet_print(lent, length, text, size) == 0 && untouched(text, 0, size);
 }
 
-static void lend_and_compare(const uint8_t *sheet, size_t length) {
+static uint32_t lend_and_compare(const uint8_t *sheet, size_t length) {
     char triple_line[PLAIN_LINE], pass_line[PLAIN_LINE];
     uint8_t *lent = edge - length;
     memcpy(lent, sheet, length);
@@ -73,6 +74,11 @@ static void lend_and_compare(const uint8_t *sheet, size_t length) {
     if (ours < NUMBERS) {
         seen[ours]++;
     }
+    unsigned at;
+    if (ours == 26 && sscanf(triple_line, "refused 26 edge %u", &at) == 1) {
+        unseen_at[at % 128]++;
+    }
+    return ours;
 }
 
 /* ---- chance, the same on every machine */
@@ -165,8 +171,8 @@ static void caterpillar(struct parts *p) {
     p->k = 125;
 }
 
-/* Distances that the lengths fit: the paths, and units that every edge's sum leaves out. */
-static void fit(struct parts *p) {
+/* Distances that the lengths fit: the paths, and so many times units that every edge's sum leaves out. */
+static void fit(struct parts *p, int turns) {
     uint64_t below[128] = {0};
     for (uint32_t i = 0; i < p->n; i++) {
         for (uint32_t v = i;; v = p->parents[v]) {
@@ -196,7 +202,7 @@ static void fit(struct parts *p) {
             at[i][j] = at[j][i] = q;
         }
     }
-    for (int turn = 0; turn < 40 && p->n >= 4; turn++) {
+    for (int turn = 0; turn < turns && p->n >= 4; turn++) {
         uint32_t a = (uint32_t)chance(p->n), b = (uint32_t)chance(p->n), c = (uint32_t)chance(p->n), d = (uint32_t)chance(p->n);
         if (a == b || a == c || a == d || b == c || b == d || c == d) {
             continue;
@@ -232,6 +238,101 @@ static void strain_limits(struct parts *p) {
     }
 }
 
+/* ---- pairs that nobody measured */
+static void compare_incomplete(const struct parts *p) {
+    static uint8_t sheet[ROOM];
+    uint32_t number = lend_and_compare(sheet, write_sheet(p, sheet));
+    incomplete++;
+    if (number < NUMBERS) {
+        incomplete_seen[number]++;
+    }
+}
+
+static void lose(struct parts *p, uint32_t i, uint32_t j) {
+    uint32_t low = i < j ? i : j, high = i < j ? j : i;
+    p->distances[low * (2 * p->n - low - 1) / 2 + high - low - 1] = MISSING;
+}
+
+/* Every pair that edge v parts is missing. */
+static void lose_edge(struct parts *p, uint32_t v) {
+    uint64_t below = 0;
+    for (uint32_t i = 0; i < p->n; i++) {
+        uint32_t w = i;
+        while (w != v && w + 1 < p->v) {
+            w = p->parents[w];
+        }
+        below |= (uint64_t)(w == v) << i;
+    }
+    for (uint32_t i = 0; i < p->n; i++) {
+        for (uint32_t j = i + 1; j < p->n; j++) {
+            if ((below >> i & 1) != (below >> j & 1)) {
+                lose(p, i, j);
+            }
+        }
+    }
+}
+
+/* From a sheet whose distances are its paths exactly, so that it stays a fit whatever is missing; where they are not, the
+ * plain readings still say what is due. */
+static void incomplete_twins(const struct parts *whole) {
+    static struct parts p, twin;
+    uint32_t pairs = whole->n * (whole->n - 1) / 2;
+    p = *whole;
+    switch (chance(6)) {
+    case 0: /* one to three */
+    case 1:
+        for (uint64_t k = 1 + chance(3); k > 0; k--) {
+            p.distances[chance(pairs)] = MISSING;
+        }
+        break;
+    case 2: /* some share of all */
+    case 3:
+        for (uint64_t q = 0, share = 1 + chance(9); q < pairs; q++) {
+            if (chance(10) < share) {
+                p.distances[q] = MISSING;
+            }
+        }
+        break;
+    case 4: /* one or two edges that part nothing, and some pairs beside */
+        for (uint64_t k = 1 + chance(2); k > 0; k--) {
+            lose_edge(&p, (uint32_t)chance(p.k));
+        }
+        p.distances[chance(pairs)] = MISSING;
+        break;
+    default: /* all, or all but one to three */
+        for (uint32_t q = 0; q < pairs; q++) {
+            p.distances[q] = MISSING;
+        }
+        for (uint64_t k = chance(4); k > 0; k--) {
+            uint64_t q = chance(pairs);
+            p.distances[q] = whole->distances[q];
+        }
+        break;
+    }
+    compare_incomplete(&p);
+    for (int turn = 0; turn < 3; turn++) { /* 26 together with other faults, of which some come before it */
+        twin = p;
+        strain_limits(&twin);
+        if (turn == 2) {
+            strain_limits(&twin);
+        }
+        compare_incomplete(&twin);
+    }
+    twin = p; /* a measured distance or a numerator off by one */
+    uint64_t q = chance(pairs);
+    if (chance(2) == 0 && twin.distances[q] != MISSING) {
+        twin.distances[q]++;
+    } else {
+        twin.numerators[chance(p.k)] += chance(2) == 0 ? 1 : -1;
+    }
+    compare_incomplete(&twin);
+    static const uint16_t near[] = {50000, 50001, 65533, 65534, 65535};
+    twin = p; /* beside a missing pair */
+    twin.distances[chance(pairs)] = MISSING;
+    twin.distances[chance(pairs)] = near[chance(5)];
+    compare_incomplete(&twin);
+}
+
 /* The end of some room that is followed by a page that cannot be read. */
 static uint8_t *guarded(void) {
     size_t page = (size_t)sysconf(_SC_PAGESIZE);
@@ -243,6 +344,13 @@ static uint8_t *guarded(void) {
     return map + ROOM;
 }
 
+static void show(const char *lead, const unsigned long counts[], int from, int to) {
+    printf("%s", lead);
+    for (int k = from; k <= to; k++) {
+        printf(" %lu", counts[k]);
+    }
+}
+
 int main(void) {
     static uint8_t sheet[ROOM];
     static struct parts p;
@@ -250,7 +358,7 @@ int main(void) {
     text_end = guarded();
     /* every length from 0 to 5,200: zeros, chance, and the longest valid sheet cut or drawn out */
     caterpillar(&p);
-    fit(&p);
+    fit(&p, 40);
     size_t whole = write_sheet(&p, sheet);
     for (size_t length = 0; length <= 5200; length++) {
         lend_and_compare(sheet, length);
@@ -276,7 +384,7 @@ int main(void) {
     for (unsigned long turn = 0; passed + failed < 205000; turn++) {
         uint32_t n = turn % 16 == 0 ? 64 : 3 + (uint32_t)chance(turn % 4 == 0 ? 62 : 14);
         grow(&p, n);
-        fit(&p);
+        fit(&p, 40);
         size_t length = write_sheet(&p, sheet);
         lend_and_compare(sheet, length);
         lend_and_compare(sheet, (size_t)chance(length));
@@ -305,13 +413,31 @@ int main(void) {
             lend_and_compare(sheet, write_sheet(&twin, sheet));
         }
     }
-    for (int k = 0; k < NUMBERS; k++) {
-        printf("%s%lu", k == 0 ? "answers 0 to 16: " : " ", seen[k]);
+    /* and 60,000 with missing pairs */
+    for (unsigned long turn = 0; incomplete < 60000; turn++) {
+        grow(&p, turn % 32 == 0 ? 64 : 3 + (uint32_t)chance(turn % 8 == 0 ? 62 : 10));
+        fit(&p, turn % 3 == 0 ? 40 : 0);
+        incomplete_twins(&p);
     }
+    show("answers 0 to 16:", seen, 0, 16);
+    printf(", 26: %lu\nwith missing pairs:", seen[26]);
+    show("", incomplete_seen, 0, 16);
+    printf(", 26: %lu of %lu\n26 at edges 0 to 19:", incomplete_seen[26], incomplete);
+    show("", unseen_at, 0, 19);
     printf("\n");
-    for (int k = 0; k < NUMBERS; k++) {
+    for (int k = 0; k <= 16; k++) {
         if (seen[k] == 0 && k != VAMUTHEXA_BUFFER) {
             printf("no sheet got %d\n", k);
+            failed++;
+        }
+        if (incomplete_seen[k] == 0 && (k == 0 || k >= 6) && k != VAMUTHEXA_BUFFER) {
+            printf("no sheet with a missing pair got %d\n", k);
+            failed++;
+        }
+    }
+    for (int v = 0; v < 20; v++) {
+        if (unseen_at[v] == 0) {
+            printf("no sheet got 26 at edge %d\n", v);
             failed++;
         }
     }

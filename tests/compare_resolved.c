@@ -1,6 +1,6 @@
 /* Compares the proved direct fit with the plain reading on resolved trees of every size, by tables and by the print of
  * a sheet without lengths, and tries what it must refuse: each with its number, or with the whole line of its print,
- * and every buffer as it was. Last line: 'N passed, M failed'. */
+ * and every buffer as it was; among these matrices with a missing pair, which the direct fit does not take. Last line: 'N passed, M failed'. */
 #include <inttypes.h>
 #include <stdio.h>
 #include <string.h>
@@ -10,7 +10,7 @@
 #include "trees.h"
 #include "vamuthexa.h"
 
-enum { EDGES = 125 };
+enum { EDGES = 125, MISSING = 65535 };
 
 struct buffers {
     int64_t tops[EDGES + 1], rounded[EDGES + 1];
@@ -131,6 +131,58 @@ static void print_all(uint32_t n, const uint16_t *d, const uint8_t *parents, con
     }
 }
 
+/* The line of a refusal, and whatever the plain reading says of the same sheet damaged. */
+static void print_refused(uint32_t n, const uint16_t *d, const uint8_t *parents, uint32_t k, const char *line) {
+    static uint8_t sheet[VAMUTHEXA_PAGE];
+    char plain[PLAIN_LINE];
+    size_t length = write_bare(sheet, n, d, parents, k);
+    plain_unfitted_line(sheet, length, plain);
+    count(strcmp(plain, line) == 0, "the plain line", n);
+    prints(sheet, length, line, strlen(line), 1, "the print of a missing pair", n);
+    sheet[chance((uint32_t)length)] = (uint8_t)chance(256);
+    prints_damaged(sheet, length, n);
+}
+
+/* 26 for any missing pair, with no place: behind 7 to 10, 16 and 25, before 15. */
+static void refuses_missing(uint32_t n, const uint16_t *whole, const uint8_t *parents) {
+    static uint16_t d[2016];
+    uint8_t other[128];
+    uint32_t k = 2 * n - 3, pairs = n * (n - 1) / 2, one = chance(pairs);
+    memcpy(d, whole, pairs * sizeof d[0]);
+    memcpy(other, parents, k);
+    d[one] = MISSING;
+    refuses(26, n, d, pairs, parents, k, k, k, k);
+    refuses(26, n, d, pairs, parents, k, k - 1, k, k);
+    refuses(26, n, d, pairs, parents, k, k, k + 1, 0);
+    print_refused(n, d, parents, k, "refused 26\n");
+    refuses(4, n, d, pairs - 1, parents, k, k, k, k);
+    refuses(8, n, d, pairs, parents, n - 1, k, k, k);
+    other[0] = 0;
+    refuses(9, n, d, pairs, other, k, k, k, k);
+    print_refused(n, d, other, k, "refused 9 vertex 0\n");
+    other[0] = (uint8_t)(k + 1);
+    refuses(16, n, d, pairs, other, k, k, k, k);
+    if (n > 3) {
+        char line[PLAIN_LINE];
+        memset(other, (int)n, n);
+        sprintf(line, "refused 25 vertex %u\n", (unsigned)n);
+        refuses(25, n, d, pairs, other, n, n, n, n);
+        refuses(25, n, d, pairs, other, n, n, n + 1, n);
+        print_refused(n, d, other, n, line);
+    }
+    uint32_t beside = (one + 1 + chance(pairs - 1)) % pairs;
+    d[beside] = chance(2) == 0 ? 65534 : 50001; /* no missing pair, and beside one it is still 7 */
+    refuses(7, n, d, pairs, parents, k, k, k, k);
+    print_refused(n, d, parents, k, "refused 7\n");
+    d[one] = whole[one];
+    refuses(7, n, d, pairs, parents, k, k, k, k);
+    for (uint32_t p = 0; p < pairs; p++) { /* some, at last all; an edge may then part nothing */
+        d[p] = p == one || chance(3) == 0 || n % 5 == 0 ? MISSING : whole[p];
+    }
+    refuses(26, n, d, pairs, parents, k, k, k, k);
+    print_refused(n, d, parents, k, "refused 26\n");
+}
+
 int main(void) {
     static uint16_t d[2016];
     uint8_t parents[128];
@@ -171,6 +223,7 @@ int main(void) {
         refuses(9, n, d, pairs, parents, k, k, k, k);
         parents[0] = first;
         parents[1] = second;
+        refuses_missing(n, d, parents);
         if (n > 3) {
             memset(parents, (int)n, n);
             refuses(25, n, d, pairs, parents, n, n, n, n);

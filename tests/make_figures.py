@@ -2,12 +2,15 @@
 """Writes the input of the program `figures` and what it must print: the figures of RULES, Bench figures
 that are not starred, with both sides of each limit; sheets with several faults, of which the lowest is the place; fits of the exact solver on trees of every kind, and of
 each a damaged twin; a fit with the ties of RULES, The numbers of a fit, over several denominators; the worked example of Bryant and Waddell (1998) and the data of Felsenstein's (1997) Table 1;
+for matrices with missing pairs fits of the exact solver, two of a matrix and a tree that have more than one, damaged
+twins, and edges that part no measured pair;
 and for the direct fit every resolved tree of up to six strains, random ones, caterpillars and balanced ones up
 to 64, with the exact solver's lengths, and sheets without lengths that are refused.
 What must be printed comes from the plain reading (reading.py) and the solver (solver.py) alone.
 
     tests/make_figures.py            writes crates/figures/stdin and crates/figures/stdout
-    tests/make_figures.py --check    says whether they are what this script writes"""
+    tests/make_figures.py --check    says whether they are what this script writes
+    tests/make_figures.py --example  prints the small example of a matrix with missing pairs and two fits"""
 import os
 import random
 import struct
@@ -20,6 +23,10 @@ import solver
 HERE = os.path.dirname(os.path.abspath(__file__))
 CRATE = os.path.join(HERE, "..", "crates", "figures")
 A = (4, [3, 7, 8, 6, 9, 5], [4, 4, 5, 5, 5], 2, [3, 3, 3, 7, 7])
+MISSING = reading.MISSING
+# sheet A without the distances 01 and 23: its own lengths still fit, and so do others
+TWO_FITS = [(4, [MISSING, 7, 8, 6, 9, MISSING], [4, 4, 5, 5, 5], *lengths)
+            for lengths in ((2, [3, 3, 3, 7, 7]), (2, [10, 10, 3, 7, 0]), (4, [0, 0, 0, 8, 26]))]
 
 
 # ---- trees: nested lists of strains, numbered from the leaves up
@@ -313,6 +320,175 @@ def places():
         yield reading.sheet(64, [50000 * (sign < 0)] * 2016, parents, 1000000, [sign * 10 ** 11] * len(parents))
 
 
+# ---- matrices with missing pairs
+def lost(n, distances, rng):
+    """The distances with few to many missing."""
+    kind = rng.randrange(4)
+    if kind == 0:
+        gone = set(rng.sample(range(len(distances)), min(len(distances) - 1, rng.randint(1, 3))))
+    elif kind == 3:  # two groups of strains that were not crossed within themselves
+        one = set(rng.sample(range(n), rng.randint(1, n - 1)))
+        gone = {k for k, (i, j) in enumerate(reading.pairs_of(n)) if (i in one) == (j in one) and rng.random() < 0.95}
+    else:
+        share = rng.uniform(0.1, 0.7)
+        gone = {k for k in range(len(distances)) if rng.random() < share}
+    gone = gone or {rng.randrange(len(distances))}
+    return [MISSING if k in gone else d for k, d in enumerate(distances)]
+
+
+def unsettled_where_measured(n, parents, distances, rng, turns):
+    """Like `unsettled`, with all four pairs measured."""
+    whole = list(distances)
+    below = reading.clusters(n, parents)
+    place = {p: k for k, p in enumerate(reading.pairs_of(n))}
+    at = lambda a, b: place[(min(a, b), max(a, b))]
+    for _ in range(turns if n > 3 else 0):
+        a, b, c, d = rng.sample(range(n), 4)
+        four = (at(a, c), at(b, d), at(a, d), at(b, c))
+        if any(distances[k] == MISSING for k in four) or any((a in s) != (b in s) and (c in s) != (d in s) for s in below):
+            continue
+        size = rng.randint(1, 40)
+        if all(0 <= whole[k] + x <= 50000 for k, x in zip(four, (size, size, -size, -size))):
+            for k, x in zip(four, (size, size, -size, -size)):
+                whole[k] += x
+    return whole
+
+
+def within(denominator, numerators):
+    return denominator <= 1000000 and all(abs(x) <= 10 ** 11 for x in numerators)
+
+
+class Incomplete:
+    """Matrices with missing pairs and their fits. `fitted` has each matrix and tree that every edge of parts a measured
+    pair, with its one fit or two of its fits; `unseen` those with an edge that does not, with what the solver has; `far`
+    counts those whose fit is beyond the limits of a proposal."""
+
+    def __init__(self, rng):
+        self.fitted, self.unseen, self.far = [], [], 0
+        while len(self.fitted) < 240 or self.several() < 60 or sum(1 for x in self.fitted if x[0][0] > 12) < 14:
+            more = len(self.fitted) >= 225 and rng.random() < 0.5
+            n = rng.choice((13, 15, 16, 18, 20)) if more else rng.randint(3, 12)
+            shape = rng.choice((star(n), grown(n, rng, 2), grown(n, rng, 2), grown(n, rng, 4), caterpillar(n) if n > 3 else star(n),
+                                balanced(n) if n > 5 else grown(n, rng, 3)))
+            parents = table_of(shape, n)
+            if n <= 7 and rng.random() < 0.7:  # any distances at all
+                most = rng.choice((9, 60, 50000))
+                distances = lost(n, [rng.randint(0, most) for _ in reading.pairs_of(n)], rng)
+            else:
+                distances = [-1]
+                while min(distances) < 0 or max(distances) > 50000:
+                    lengths = [rng.randint(300, 700) if v < n else rng.choice((-40, -3, 0, 5, 60)) for v in range(len(parents))]
+                    distances = whole_paths(n, parents, lengths)
+                distances = unsettled_where_measured(n, parents, lost(n, distances, rng), rng, 8 * n)
+                if n <= 12 and rng.random() < 0.6:  # and some that are not in balance
+                    k = rng.choice([k for k, d in enumerate(distances) if d != MISSING] or [None])
+                    if k is not None:
+                        distances[k] = rng.randint(0, 5000)
+            self.take((n, distances, parents), rng)
+
+    def several(self):
+        return sum(1 for _, fits, _ in self.fitted if len(fits) > 1)
+
+    def take(self, posted, rng):
+        solved = solver.Measured(*posted)
+        tables = [solver.common(solved.fit(lambda v: 0))]
+        if solved.free:
+            tables.append(solver.common(solved.fit(lambda v: Fraction(rng.choice((-1, 1)) * rng.randint(1, 90), rng.choice((1, 1, 2, 3))))))
+            assert len({tuple(Fraction(x, d) for x in xs) for d, xs in tables}) == 2
+        if not all(within(*table) for table in tables):
+            self.far += 1
+            return
+        if reading.seen_answer(*posted):
+            # an edge that parts no measured pair can have any length; so it is free
+            assert reading.seen_answer(*posted)[2] in solved.free
+            if len(self.unseen) < 80:
+                self.unseen.append((posted, tables))
+            return
+        # both readings of the model agree that these are fits, and every fit has the same sum of squares
+        squares = {solved.squares([Fraction(x, d) for x in xs]) for d, xs in tables}
+        assert squares == {Fraction(reading.Report(*posted, d, xs).f, d) for d, xs in tables} and len(squares) == 1
+        assert not any(any(reading.edge_sums(*posted, d, xs)) for d, xs in tables)
+        self.fitted.append((posted, tables, squares.pop()))
+
+
+def damaged_incomplete(fields, rng):
+    """A twin with one thing wrong, or with a pair more or a pair less measured."""
+    n, distances, parents, denominator, numerators = fields
+    distances, numerators = list(distances), list(numerators)
+    measured = [k for k, d in enumerate(distances) if d != MISSING]
+    missing = [k for k, d in enumerate(distances) if d == MISSING]
+    kind = rng.randrange(8)
+    if kind < 3:
+        numerators[rng.randrange(len(numerators))] += rng.choice((-1, 1))
+    elif kind == 3:
+        k = rng.choice(measured)
+        distances[k] += 1 if distances[k] < 50000 else -1
+    elif kind == 4:
+        distances[rng.choice(missing)] = rng.choice((0, 7, 50000))
+    elif kind == 5:
+        distances[rng.choice(measured)] = MISSING
+    elif kind == 6:
+        distances[rng.choice(missing)] = rng.choice((50001, 65534))
+    else:
+        denominator += 1
+    return n, distances, parents, denominator, numerators
+
+
+def incomplete_sheets():
+    """The sheets, and what the summary says of them."""
+    rng = random.Random(65535)
+    out = [reading.sheet(*fields) for fields in TWO_FITS]
+    n, distances, parents, d, numerators = A
+    # one pair missing or several, in every way: all 64 choices of sheet A's pairs
+    for gone in range(1, 64):
+        out.append(reading.sheet(n, [MISSING if gone >> k & 1 else x for k, x in enumerate(distances)], parents, d, numerators))
+    for far in (50000, 50001, 65534, 65535):
+        for k in range(6):
+            out.append(reading.sheet(n, [far if x == k else y for x, y in enumerate(TWO_FITS[0][1])], parents, d, numerators))
+    # 26 before 11, 12, 13 and 14, and behind 6 to 10 and 16
+    none = [MISSING] * 6
+    for gone in (none, [3] + [MISSING] * 5, [3, MISSING, MISSING, MISSING, MISSING, 5], [MISSING] * 3 + [6, 9, 5]):
+        out.append(reading.sheet(n, gone, parents, d, numerators))
+        out.append(reading.sheet(n, gone, parents, d, numerators[:4]))
+        out.append(reading.sheet(n, gone, parents, 0, numerators))
+        out.append(reading.sheet(n, gone, parents, d, [10 ** 11 + 1] + numerators[1:]))
+        out.append(reading.sheet(n, gone, [5, 4, 5, 5, 5], d, numerators))
+        out.append(reading.sheet(n, gone, [0, 6, 5, 5, 5], d, numerators))
+        out.append(reading.sheet(n, gone, [4, 4, 4], d, numerators))
+        out.append(reading.sheet(n, gone[:5] + [65534], parents, d, numerators))
+    # three strains: two pairs of three, one, none
+    for gone in ([MISSING, 4, 6], [4, MISSING, 6], [4, 6, MISSING], [MISSING, MISSING, 4], [MISSING] * 3):
+        out.append(reading.sheet(3, gone, [3, 3, 3], 1, [1, 3, 3]))
+        out.append(reading.sheet(3, gone, [3, 3, 3], 1, [1, 3, 5]))
+    # as many strains as may be: a caterpillar with all but a ring missing, and one with a single pair missing
+    parents = table_of(caterpillar(64), 64)
+    paths = whole_paths(64, parents, [300] * 125)
+    ring = [d if (i + 1) % 64 == j or (j + 1) % 64 == i else MISSING for d, (i, j) in zip(paths, reading.pairs_of(64))]
+    out += [reading.sheet(64, gone, parents, 1, [300] * 125) for gone in (ring, paths[:-1] + [MISSING])]
+    out.append(reading.sheet(64, ring, parents, 1, [300] * 124 + [301]))
+    drawn = Incomplete(rng)
+    for posted, tables, _ in drawn.fitted:
+        out += [reading.sheet(*posted, *table) for table in tables]
+        out.append(reading.sheet(*damaged_incomplete((*posted, *tables[-1]), rng)))
+    for posted, tables in drawn.unseen:
+        out.append(reading.sheet(*posted, *tables[-1]))
+    return out, drawn
+
+
+def show_example():
+    """The example with two fits and more, in words."""
+    for fields in TWO_FITS:
+        n, distances, parents, denominator, numerators = fields
+        found = reading.Report(*fields)
+        solved = solver.Measured(*fields[:3])
+        assert reading.judge(*fields) == reading.PASS and solved.squares([Fraction(x, denominator) for x in numerators]) == 1
+        print("N = %d; distances %s; parents %s; D = %d, numerators %s: F = %d, F/D = %s" % (
+            n, " ".join("-" if d == MISSING else str(d) for d in distances), " ".join(map(str, parents)), denominator,
+            " ".join(map(str, numerators)), found.f, Fraction(found.f, denominator)))
+        print("\n".join("    " + line for line in found.lines()))
+    print("free edges by the solver: %s" % solved.free)
+
+
 def sheets():
     rng = random.Random(1998)
     out = [reading.sheet(*A)]
@@ -384,6 +560,20 @@ def unfitted():
     for shape, n in ((star(4), 4), ([[0, 1, 2], 3, 4], 5), ([[0, 1], 2, 3, 4], 5), ([[0, 1], [2, 3], 4, 5], 6), (star(64), 64),
                      ([[0, 1, 2], [3, 4, 5], 6], 7), ([[0, 1], [2, 3, 4], 5, 6, 7], 8)):
         out.append(reading.bare_sheet(n, anything(n), table_of(shape, n)))
+    # a missing pair: 26 with no place, behind 7 to 10, 16 and 25; also where an edge parts nothing
+    for k in range(6):
+        gone = [MISSING if x == k else d for x, d in enumerate(A[1])]
+        out.append(reading.bare_sheet(4, gone, A[2]))
+        out.append(reading.bare_sheet(4, gone, [4, 4, 4, 4]))
+        out.append(reading.bare_sheet(4, gone, [5, 4, 5, 5, 5]))
+        out.append(reading.bare_sheet(4, gone, [0, 6, 5, 5, 5]))
+        out.append(reading.bare_sheet(4, [65534 if x == (k + 1) % 6 else d for x, d in enumerate(gone)], A[2]))
+    out.append(reading.bare_sheet(4, [MISSING] * 6, A[2]))
+    out.append(reading.bare_sheet(4, [MISSING] * 3 + [6, 9, 5], A[2]))
+    for n in (3, 5, 9, 12):
+        for shape in (star(n), grown(n, rng, 2), grown(n, rng, 4)):
+            out.append(reading.bare_sheet(n, lost(n, anything(n), rng), table_of(shape, n)))
+    out.append(reading.bare_sheet(64, [50000] * 2015 + [MISSING], table_of(caterpillar(64), 64)))
     return out
 
 
@@ -401,7 +591,12 @@ def ties(prints):
 
 
 def main():
-    made = sheets()
+    if "--example" in sys.argv:
+        show_example()
+        return 0
+    whole = sheets()
+    gone, drawn = incomplete_sheets()
+    made = whole + gone
     bare = unfitted()
     led = lambda kind, s: struct.pack("<I", len(s) | kind << 24) + s
     stdin = b"".join(led(0, s) for s in made) + b"".join(led(1, s) for s in bare)
@@ -409,7 +604,15 @@ def main():
     assert all(ties(judged)) and all(ties(resolved))
     stdout = "".join(" ".join(lines) + "\n" for lines in judged + resolved).encode()
     files = {"stdin": stdin, "stdout": stdout}
+    assert len(stdin) <= 524288  # what the program reads
+    of_gone = judged[len(whole):]
+    told = ("%d with missing pairs: %d accepted, %d are 14, %d are 26, %d are 7; %d matrices drawn and fitted, %d of them with N above 12, "
+            "%d with two different fits of one sum of squares; %d more beyond the limits") % (
+        len(gone), *(sum(1 for lines in of_gone if lines[0].startswith(lead)) for lead in ("fit ", "refused 14 ", "refused 26 ", "refused 7")),
+        len(drawn.fitted), sum(1 for x in drawn.fitted if x[0][0] > 12), drawn.several(), drawn.far)
+    assert all(lines[-1] == "mean none" for s, lines in zip(gone, of_gone) if lines[0].startswith("fit ") and MISSING in reading.read_sheet(s)[1][1])
     if "--check" in sys.argv:
+        print(told)
         same = all(open(os.path.join(CRATE, name), "rb").read() == data for name, data in files.items())
         print("%d sheets, %d accepted; %d without lengths, %d resolved: %s" % (len(made), stdout.count(b"fit "), len(bare),
               stdout.count(b"resolved "), "as made" if same else "NOT as made"))
@@ -418,6 +621,7 @@ def main():
     for name, data in files.items():
         with open(os.path.join(CRATE, name), "wb") as file:
             file.write(data)
+    print(told)
     print("%d sheets, %d accepted, %d without lengths, %d resolved, ties %s and %s, numbers %s" % (len(made), stdout.count(b"fit "),
           len(bare), stdout.count(b"resolved "), ties(judged), ties(resolved),
           sorted({int(line.split()[1]) for line in stdout.decode().splitlines() if line.startswith("refused")})))

@@ -4,7 +4,7 @@
 #include <stdio.h>
 #include <string.h>
 
-enum { MAX_N = 64, MAX_V = 2 * MAX_N - 2, MAX_SHEET = 5187 };
+enum { MAX_N = 64, MAX_V = 2 * MAX_N - 2, MAX_SHEET = 5187, MISSING = 65535 };
 
 static uint64_t little(const uint8_t *at, int bytes) {
     uint64_t x = 0;
@@ -96,7 +96,7 @@ static uint32_t read_front(const struct sheet *s, uint16_t d[], uint8_t parent[]
     uint32_t pairs = s->n * (s->n - 1) / 2;
     for (uint32_t p = 0; p < pairs; p++) {
         d[p] = (uint16_t)little(s->distances + 2 * p, 2);
-        if (d[p] > 50000) {
+        if (d[p] > 50000 && d[p] != MISSING) {
             return 7;
         }
     }
@@ -141,17 +141,40 @@ static uint32_t read_lengths(const struct sheet *s, int64_t n[], struct place *p
     return 0;
 }
 
-static uint32_t triple(struct sheet s, const uint16_t d[], const uint8_t parent[], const int64_t n[], struct place *place) {
-    static uint8_t below[MAX_V][MAX_N];
-    memset(below, 0, sizeof below);
-    for (uint32_t i = 0; i < s.n; i++) {
+/* Which strains are below which vertex. */
+static void fill_below(const struct sheet *s, const uint8_t parent[], uint8_t below[][MAX_N]) {
+    memset(below, 0, MAX_V * MAX_N);
+    for (uint32_t i = 0; i < s->n; i++) {
         for (uint32_t v = i;; v = parent[v]) {
             below[v][i] = 1;
-            if (v == s.v - 1) {
+            if (v == s->v - 1) {
                 break;
             }
         }
     }
+}
+
+/* 26: every edge is asked for every pair. */
+static uint32_t triple_unseen(const struct sheet *s, const uint16_t d[], const uint8_t parent[], struct place *place) {
+    static uint8_t below[MAX_V][MAX_N];
+    fill_below(s, parent, below);
+    for (uint32_t v = 0; v + 1 < s->v; v++) {
+        uint32_t p = 0, parted = 0;
+        for (uint32_t i = 0; i < s->n; i++) {
+            for (uint32_t j = i + 1; j < s->n; j++, p++) {
+                parted += below[v][i] != below[v][j] && d[p] != MISSING;
+            }
+        }
+        if (parted == 0) {
+            return refuse(26, place, "edge", v);
+        }
+    }
+    return 0;
+}
+
+static uint32_t triple(struct sheet s, const uint16_t d[], const uint8_t parent[], const int64_t n[], struct place *place) {
+    static uint8_t below[MAX_V][MAX_N];
+    fill_below(&s, parent, below);
     static int64_t remainder[MAX_N * MAX_N];
     uint32_t p = 0;
     for (uint32_t i = 0; i < s.n; i++) {
@@ -162,7 +185,7 @@ static uint32_t triple(struct sheet s, const uint16_t d[], const uint8_t parent[
                     path += n[v];
                 }
             }
-            remainder[p] = (int64_t)s.d * d[p] - path;
+            remainder[p] = d[p] == MISSING ? 0 : (int64_t)s.d * d[p] - path;
         }
     }
     for (uint32_t v = 0; v < s.k; v++) {
@@ -183,6 +206,35 @@ static uint32_t triple(struct sheet s, const uint16_t d[], const uint8_t parent[
     return 0;
 }
 
+/* 26: every measured pair walks from both ends to where its path turns; the lowest edge that none took. A complete matrix
+ * needs no walk: each edge has a strain below it and one that is not. */
+static uint32_t pass_unseen(const struct sheet *s, const uint16_t d[], const uint8_t parent[], struct place *place) {
+    uint8_t walked[MAX_V] = {0};
+    uint32_t p = 0, pairs = s->n * (s->n - 1) / 2;
+    while (p < pairs && d[p] != MISSING) {
+        p++;
+    }
+    if (p == pairs) {
+        return 0;
+    }
+    p = 0;
+    for (uint32_t i = 0; i < s->n; i++) {
+        for (uint32_t j = i + 1; j < s->n; j++, p++) {
+            for (uint32_t a = i, b = j; d[p] != MISSING && a != b;) {
+                uint32_t *low = a < b ? &a : &b;
+                walked[*low] = 1;
+                *low = parent[*low];
+            }
+        }
+    }
+    for (uint32_t v = 0; v + 1 < s->v; v++) {
+        if (!walked[v]) {
+            return refuse(26, place, "edge", v);
+        }
+    }
+    return 0;
+}
+
 static uint32_t pass(struct sheet s, const uint16_t d[], const uint8_t parent[], const int64_t n[], struct place *place) {
     /* the strains below each vertex so far, as a list; each strain's way up to the vertex that it is listed at */
     uint8_t list[MAX_V][MAX_N], count[MAX_V] = {0};
@@ -198,7 +250,8 @@ static uint32_t pass(struct sheet s, const uint16_t d[], const uint8_t parent[],
             way[i] += n[v];
             for (uint32_t b = 0; b < count[up]; b++) {
                 uint32_t j = list[up][b], low = i < j ? i : j, high = i < j ? j : i;
-                int64_t r = (int64_t)s.d * d[low * (2 * s.n - low - 1) / 2 + high - low - 1] - way[i] - way[j];
+                uint16_t far = d[low * (2 * s.n - low - 1) / 2 + high - low - 1];
+                int64_t r = far == MISSING ? 0 : (int64_t)s.d * far - way[i] - way[j];
                 sum[i] += r;
                 sum[j] += r;
                 across[up] += r;
@@ -219,10 +272,11 @@ static uint32_t pass(struct sheet s, const uint16_t d[], const uint8_t parent[],
     return 0;
 }
 
+typedef uint32_t unseen_of(const struct sheet *, const uint16_t[], const uint8_t[], struct place *);
 typedef uint32_t equations_of(struct sheet, const uint16_t[], const uint8_t[], const int64_t[], struct place *);
 
-/* 1 to 13 and 16, then the equations. */
-static uint32_t verdict(const uint8_t *bytes, size_t length, equations_of *equations, struct place *place) {
+/* 1 to 10 and 16, the edges that part no measured pair, 11 to 13, then the equations. */
+static uint32_t verdict(const uint8_t *bytes, size_t length, unseen_of *unseen, equations_of *equations, struct place *place) {
     struct sheet s;
     uint16_t d[MAX_N * MAX_N];
     uint8_t parent[MAX_V];
@@ -232,6 +286,9 @@ static uint32_t verdict(const uint8_t *bytes, size_t length, equations_of *equat
         number = read_front(&s, d, parent, place);
     }
     if (number == 0) {
+        number = unseen(&s, d, parent, place);
+    }
+    if (number == 0) {
         number = read_lengths(&s, n, place);
     }
     return number != 0 ? number : equations(s, d, parent, n, place);
@@ -239,12 +296,12 @@ static uint32_t verdict(const uint8_t *bytes, size_t length, equations_of *equat
 
 uint32_t plain_triple(const uint8_t *bytes, size_t length) {
     struct place place = {0};
-    return verdict(bytes, length, triple, &place);
+    return verdict(bytes, length, triple_unseen, triple, &place);
 }
 
 uint32_t plain_pass(const uint8_t *bytes, size_t length) {
     struct place place = {0};
-    return verdict(bytes, length, pass, &place);
+    return verdict(bytes, length, pass_unseen, pass, &place);
 }
 
 static uint32_t write_line(uint32_t number, const struct place *place, char line[PLAIN_LINE]) {
@@ -261,13 +318,13 @@ static uint32_t write_line(uint32_t number, const struct place *place, char line
 
 uint32_t plain_triple_line(const uint8_t *bytes, size_t length, char line[PLAIN_LINE]) {
     struct place place = {0};
-    uint32_t number = verdict(bytes, length, triple, &place);
+    uint32_t number = verdict(bytes, length, triple_unseen, triple, &place);
     return write_line(number, &place, line);
 }
 
 uint32_t plain_pass_line(const uint8_t *bytes, size_t length, char line[PLAIN_LINE]) {
     struct place place = {0};
-    uint32_t number = verdict(bytes, length, pass, &place);
+    uint32_t number = verdict(bytes, length, pass_unseen, pass, &place);
     return write_line(number, &place, line);
 }
 
@@ -287,6 +344,11 @@ uint32_t plain_unfitted_line(const uint8_t *bytes, size_t length, char line[PLAI
         }
         if (degree != 3) {
             number = refuse(25, &place, "vertex", w);
+        }
+    }
+    for (uint32_t p = 0; number == 0 && p < s.n * (s.n - 1) / 2; p++) {
+        if (d[p] == MISSING) {
+            number = 26;
         }
     }
     return write_line(number, &place, line);

@@ -5,6 +5,7 @@ import struct
 from fractions import Fraction
 
 MAX_SHEET = 5187
+MISSING = 65535  # in a matrix: nobody measured this pair
 
 
 def pairs_of(n):
@@ -28,6 +29,11 @@ def parts(cluster, i, j):
     return (i in cluster) != (j in cluster)
 
 
+def measured_of(n, distances):
+    """The pairs that were measured, each with its distance."""
+    return [(d, i, j) for d, (i, j) in zip(distances, pairs_of(n)) if d != MISSING]
+
+
 # ---- answers: nothing where a test passes, otherwise the number of refusal, and behind it the place in words and
 # numbers where the number has one
 PASS = ()
@@ -46,7 +52,7 @@ def matrix_answer(n, distances):
         return (4,)
     if not 3 <= n <= 64:
         return (6,)
-    if any(d > 50000 for d in distances):
+    if any(d > 50000 for d in distances if d != MISSING):
         return (7,)
     return PASS
 
@@ -68,6 +74,16 @@ def tree_answer(n, parents):
     return PASS
 
 
+def seen_answer(n, distances, parents):
+    """26 at the lowest edge that parts no measured pair."""
+    below = clusters(n, parents)
+    measured = measured_of(n, distances)
+    for v in range(len(parents)):
+        if not any(parts(below[v], i, j) for _, i, j in measured):
+            return 26, "edge", v
+    return PASS
+
+
 def lengths_answer(edges, denominator, numerators):
     if len(numerators) != edges:
         return (11,)
@@ -84,11 +100,10 @@ def path(below, table, i, j):
 
 
 def edge_sums(n, distances, parents, denominator, numerators):
-    """For each edge the remainders added over the pairs that it parts."""
+    """For each edge the remainders added over the measured pairs that it parts."""
     below = clusters(n, parents)
-    pairs = pairs_of(n)
-    remainders = [denominator * d - path(below, numerators, i, j) for d, (i, j) in zip(distances, pairs)]
-    return [sum(r for r, (i, j) in zip(remainders, pairs) if parts(below[v], i, j)) for v in range(len(parents))]
+    remainders = [(denominator * d - path(below, numerators, i, j), i, j) for d, i, j in measured_of(n, distances)]
+    return [sum(r for r, i, j in remainders if parts(below[v], i, j)) for v in range(len(parents))]
 
 
 def split_sums(n, distances, parents):
@@ -96,7 +111,8 @@ def split_sums(n, distances, parents):
 
 
 def judge(n, distances, parents, denominator, numerators):
-    answer = matrix_answer(n, distances) or tree_answer(n, parents) or lengths_answer(len(parents), denominator, numerators)
+    answer = (matrix_answer(n, distances) or tree_answer(n, parents) or seen_answer(n, distances, parents)
+              or lengths_answer(len(parents), denominator, numerators))
     if answer:
         return answer
     for v, found in enumerate(edge_sums(n, distances, parents, denominator, numerators)):
@@ -119,19 +135,19 @@ class Report:
 
     def __init__(self, n, distances, parents, denominator, numerators):
         below = clusters(n, parents)
-        pairs = pairs_of(n)
+        measured = measured_of(n, distances)
         self.n, self.edges, self.denominator = n, len(parents), denominator
         self.numerators = list(numerators)
         self.rounded = [nearest(x, denominator) for x in numerators]
         self.length = sum(numerators)
         self.f = self.r = self.h = 0
-        for d, (i, j) in zip(distances, pairs):
+        for d, i, j in measured:
             self.f += d * (denominator * d - path(below, numerators, i, j))
             self.r += (1000 * d - path(below, self.rounded, i, j)) ** 2
             self.h += path(below, [1] * len(parents), i, j) ** 2
-        # pairs less edges; with none left there is nothing to divide by
-        spare = len(pairs) - len(parents)
-        self.mean = "%d %d" % (self.f, denominator * spare) if spare > 0 else "none"
+        # pairs less edges; with none left there is nothing to divide by, and with a pair missing none is given
+        spare = len(distances) - len(parents)
+        self.mean = "%d %d" % (self.f, denominator * spare) if spare > 0 and len(measured) == len(distances) else "none"
 
     def lines(self):
         out = ["fit %d %d %d" % (self.n, self.edges, self.denominator)]
@@ -238,13 +254,13 @@ def print_of(data):
 
 
 # ---- sheets without lengths
-def resolved_answer(n, parents):
-    """25 at the lowest inner vertex that is not of degree three."""
+def resolved_answer(n, distances, parents):
+    """25 at the lowest inner vertex that is not of degree three, then 26 for any missing pair."""
     edges = len(parents)
     for w in range(n, edges + 1):
         if parents.count(w) + (w < edges) != 3:
             return 25, "vertex", w
-    return PASS
+    return (26,) if MISSING in distances else PASS
 
 
 def resolved_print(data, solve):
@@ -253,7 +269,7 @@ def resolved_print(data, solve):
     if not answer:
         n, distances, tree_n, parents = read_front(*bodies)
         answer = (matrix_answer(n, distances) or ((8,) if tree_n != n else PASS) or tree_answer(n, parents)
-                  or resolved_answer(n, parents))
+                  or resolved_answer(n, distances, parents))
     if answer:
         return [refused_line(answer)]
     lengths = solve(n, distances, parents)

@@ -1,6 +1,7 @@
 """An exact least-squares solver: the lengths of a tree's edges that fit a matrix best, as fractions. The
 normal equations are solved modulo a large prime, the fractions read back, and the equations then checked
-exactly. It knows the model (Bryant and Waddell 1998, equation 22) and nothing of the crates."""
+exactly. For matrices with missing pairs, where a fit need not be the only one, the normal equations over the measured
+pairs are eliminated in fractions. It knows the model (Bryant and Waddell 1998, equation 22) and nothing of the crates."""
 import math
 from fractions import Fraction
 
@@ -54,6 +55,56 @@ def solve_sums(n, parents, wanted):
         if sum(a * b for a, b in zip(row, lengths)) != w:
             raise ValueError("the prime is too small for this fit")
     return lengths
+
+
+class Measured:
+    """The least-squares fits to the measured pairs of a matrix, whole or not: `free` has the edges whose lengths can be
+    chosen, none where the fit is the only one, and `fit` gives the one with chosen lengths there."""
+
+    def __init__(self, n, distances, parents):
+        self.edges = len(parents)
+        self.ways = []  # for each measured pair its distance and the edges on its way, up from both ends
+        for (i, j), d in zip(reading.pairs_of(n), distances):
+            if d == reading.MISSING:
+                continue
+            way = set()
+            while i != j:
+                low = min(i, j)
+                way.add(low)
+                i, j = parents[low], max(i, j)
+            self.ways.append((d, way))
+        work = [[Fraction(sum(u in way and v in way for _, way in self.ways)) for v in range(self.edges)]
+                + [Fraction(sum(d for d, way in self.ways if u in way))] for u in range(self.edges)]
+        taken, done = [], 0
+        for column in range(self.edges):
+            pivot = next((r for r in range(done, self.edges) if work[r][column]), None)
+            if pivot is None:
+                continue
+            work[done], work[pivot] = work[pivot], work[done]
+            first = work[done][column]
+            work[done] = [x / first for x in work[done]]
+            for r in range(self.edges):
+                if r != done and work[r][column]:
+                    factor = work[r][column]
+                    work[r] = [x - factor * y for x, y in zip(work[r], work[done])]
+            taken.append(column)
+            done += 1
+        self.rows = dict(zip(taken, work))  # the row that is left for each edge that is not free
+        # the normal equations of any distances have a solution
+        assert not any(row[self.edges] for row in work[done:])
+        self.free = [v for v in range(self.edges) if v not in self.rows]
+
+    def fit(self, chosen):
+        lengths = [Fraction(0)] * self.edges
+        for v in self.free:
+            lengths[v] = Fraction(chosen(v))
+        for v, row in self.rows.items():
+            lengths[v] = row[self.edges] - sum(row[u] * lengths[u] for u in self.free)
+        return lengths
+
+    def squares(self, lengths):
+        """The sum of squares."""
+        return sum((d - sum(lengths[v] for v in way)) ** 2 for d, way in self.ways)
 
 
 def common(lengths):

@@ -1,8 +1,8 @@
 -- The pass from the leaves up, one turn an edge. When vertex v's turn comes, the pairs that stand at one vertex have met, and below each
 -- edge the shares come to what those pairs give it. At the root all stand together.
 -- `gather-start` starts it, `gather-turn` is one turn, `gather-end` its end.
-use mathlib.Core.Path.{_≡_, sym, _∙_, ap, ap₂, subst}
-use mathlib.Core.Bool.{Bool, true, false, true≢false}
+use mathlib.Core.Path.{_≡_, refl, sym, _∙_, ap, ap₂, subst}
+use mathlib.Core.Bool.{Bool, true, false, cond, true≢false}
 use mathlib.Core.List.{List, [], _∷_}
 use mathlib.Core.Logic.{_≢_}
 use Prim.Native.Nat.{ℕ, suc, _+_, _*_, _≤_, _<_, _^_}
@@ -27,7 +27,7 @@ use Rattle.exact.proofs.Sign.{natAbs-add, back}
 use Rattle.exact.proofs.Sweep.{ind-abs}
 use Rattle.exact.proofs.Sum.{sum-cong, pairs-cong, pairs-sums, S-zero, ind-yes, ind-no}
 use Rattle.matrix.specs.Limits.{maxStrains}
-use Rattle.matrix.specs.Place.{distanceOf}
+use Rattle.matrix.specs.Place.{place, pairPlace, isMeasured, known, measured, distance, measuredOf, distanceOf}
 use Rattle.trees.specs.Limits.{maxEdges, maxVertices}
 use Rattle.trees.specs.Chain.{parentOf, partsPair, parts, lift, below}
 use Rattle.trees.specs.Cluster.{bitAt, mask}
@@ -39,12 +39,14 @@ use Rattle.pairs.specs.Ready.{Ready, InRange, remainderAt}
 use Rattle.edge_sums.specs.Sums.{share}
 use Rattle.meeting.specs.Shares.{under, mass}
 use Rattle.meeting.specs.Meeting.{farthestWay, largestRemainder, pairMass, Carrying, Carried, Apart, Met, over, remainderByWays}
+use Rattle.fit.specs.Quantities.{partsIn}
+use Rattle.fit.proofs.Measured.{measured-path, missing-remainder}
 use Rattle.fit.proofs.Ranges.{remainder-range}
 use Rattle.paths.proofs.Climb.{few-edges}
 use Rattle.pairs.proofs.Bounded.{in-bounds}
 use Rattle.meeting.proofs.Putting.{under-none, mass-none}
 use Rattle.matrix.proofs.Places.{pair-place-up, pair-place-sym}
-use Rattle.meeting.proofs.ByWays.{by-ways-is}
+use Rattle.meeting.proofs.ByWays.{by-ways-is, by-ways-none}
 use Rattle.meeting.proofs.Masked.{over-cong, over-mask}
 use Rattle.exact.proofs.Square.{square}
 use Rattle.edge_sums.proofs.Turning.{climbed, climbed-none, climbed-more, parts-meet, turns, path-turns, together, stands, together-more}
@@ -71,7 +73,7 @@ pub record Gathered (N K D : ℕ) (ds ps : List ℕ) (ns : List ℤ) (v : ℕ) (
   pub low : (i : ℕ) → natAbs (entryOf ways i) ≤ v * maxNumerator
   pub climbs : (i : ℕ) → i < N → entryOf ways i ≡ climbed (parentOf ps) (entryOf ns) v i
   pub light : mass maxVertices own ≤ v * turnMass
-  pub entries : (w : ℕ) → w < K → under (parentOf ps) own w ≡ pairs N (λ p. ind (together (parentOf ps) v p) *ℤ share N K D ds ps ns w p)
+  pub entries : (w : ℕ) → w < K → under (parentOf ps) own w ≡ pairs N (λ p. ind (together (parentOf ps) v p) *ℤ share K D ds ps ns w p)
 
 less-two : (x y z : ℤ) → x -ℤ y -ℤ z ≡ x -ℤ (z +ℤ y)
 less-two x y z = by-ring (x ∷ y ∷ z ∷ []) (search quote depth 20) tt
@@ -102,37 +104,47 @@ module _ {N K D : ℕ} {ds ps cs : List ℕ} {ns : List ℤ} (w : Ready N K D ds
     low = λ i. omega (arith, ap natAbs (none i));
     climbs = λ i _. none i ∙ sym (climbed-none par (entryOf ns) i);
     light = omega (arith, mass-none maxVertices own e);
-    entries = λ u _. under-none par own e u ∙ sym (pairs-cong N (λ p l _. ap (λ y. y *ℤ share N K D ds ps ns u p) (ind-no (alone par p l)) ∙ zero-*ℤ (share N K D ds ps ns u p)) ∙ S-zero (pairs-sums N));
+    entries = λ u _. under-none par own e u ∙ sym (pairs-cong N (λ p l _. ap (λ y. y *ℤ share K D ds ps ns u p) (ind-no (alone par p l)) ∙ zero-*ℤ (share K D ds ps ns u p)) ∙ S-zero (pairs-sums N));
   }
     where
       none : (i : ℕ) → entryOf ways i ≡ pos 0
       none i = ap (λ (l : List ℤ). entryOf l i) f ∙ getD-table-const maxStrains (pos 0) i
 
   pub gather-end : {v : ℕ} {own ways : List ℤ} {come : List ℕ} → K ≤ v → Gathered N K D ds ps ns v own ways come
-      → (u : ℕ) → u < K → under par own u ≡ pairs N (share N K D ds ps ns u)
+      → (u : ℕ) → u < K → under par own u ≡ pairs N (share K D ds ps ns u)
   gather-end {v} h g u l =
       let e : v ≡ K = omega (arith, g .here) in
-      g .entries u l ∙ pairs-cong N (λ p a b. ap (λ y. y *ℤ share N K D ds ps ns u p) (ind-yes (rw e (root p a b))) ∙ *ℤ-oneˡ (share N K D ds ps ns u p))
+      g .entries u l ∙ pairs-cong N (λ p a b. ap (λ y. y *ℤ share K D ds ps ns u p) (ind-yes (rw e (root p a b))) ∙ *ℤ-oneˡ (share K D ds ps ns u p))
     where
       root : (p : ℕ × ℕ) → p .0 < p .1 → p .1 < N → together par K p ≡ true
       root p a b = let q = w .standing .allowed in eq-yes
           (below-root par K (q .up) (q .top) (p .0) (omega (arith, q .edges)) ∙ sym (below-root par K (q .up) (q .top) (p .1) (omega (arith, q .edges))))
 
-  -- ---- the remainder of a pair, whichever strain is named first
+  -- ---- the remainder of a pair, whichever strain is named first: 0 where the pair is missing
+  abbrev restAt : ℕ → ℤ → ℤ
+  restAt x y = cond (isMeasured x) (pos D *ℤ pos (known x) -ℤ y) (pos 0)
+
   abbrev rest : ℕ → ℕ → ℤ
-  rest i j = pos D *ℤ distanceOf ds i j -ℤ along par K (entryOf ns) i j
+  rest i j = restAt (getD ds (pairPlace i j) 0) (along par K (entryOf ns) i j)
 
   rest-sym : (i j : ℕ) → rest i j ≡ rest j i
-  rest-sym i j = ap₂ (λ (k : ℕ) y. pos D *ℤ pos (getD ds k 0) -ℤ y) (pair-place-sym i j) (along-sym par K (entryOf ns) i j)
+  rest-sym i j = ap₂ (λ (k : ℕ) y. restAt (getD ds k 0) y) (pair-place-sym i j) (along-sym par K (entryOf ns) i j)
 
-  rest-remainder : (i j : ℕ) → i < j → rest i j ≡ remainderAt N K D ds ps ns (i, j)
-  rest-remainder i j l = ap (λ (k : ℕ). pos D *ℤ pos (getD ds k 0) -ℤ along par K (entryOf ns) i j) (pair-place-up i j l)
+  rest-remainder : (i j : ℕ) → i < j → rest i j ≡ remainderAt K D ds ps ns (i, j)
+  rest-remainder i j l = ap (λ (k : ℕ). restAt (getD ds k 0) (along par K (entryOf ns) i j)) (pair-place-up i j l) ∙ go (measured ds (i, j)) refl
+    where
+      go : (m : Bool) → measured ds (i, j) ≡ m → restAt (getD ds (place i j) 0) (along par K (entryOf ns) i j) ≡ remainderAt K D ds ps ns (i, j)
+      go true m = rw m (ap (λ (y : ℤ). distanceTerm -ℤ y) (sym (measured-path ds ps (i, j) m K (entryOf ns))))
+        where
+          distanceTerm : ℤ
+          distanceTerm = pos D *ℤ distance ds (i, j)
+      go false m = rw m (sym (missing-remainder ds ps (i, j) m K (pos D) (entryOf ns)))
 
   module _ (t : InRange K ns) where
     rest-near : (i j : ℕ) → i ≢ j → natAbs (rest i j) ≤ largestRemainder
     rest-near i j n = by-cases (decLt i j)
-        (λ l. omega (arith, ap natAbs (rest-remainder i j l), remainder-range (in-bounds w t) (partsPair par) (i, j)))
-        (λ l. omega (arith, ap natAbs (rest-sym i j), ap natAbs (rest-remainder j i (omega arith)), remainder-range (in-bounds w t) (partsPair par) (j, i)))
+        (λ l. omega (arith, ap natAbs (rest-remainder i j l), remainder-range (in-bounds w t) (partsIn ds ps) (i, j)))
+        (λ l. omega (arith, ap natAbs (rest-sym i j), ap natAbs (rest-remainder j i (omega arith)), remainder-range (in-bounds w t) (partsIn ds ps) (j, i)))
 
     -- ---- one turn
     module _ {v : ℕ} {own ways : List ℤ} {come : List ℕ} (g : Gathered N K D ds ps ns v own ways come) (edge : v < K) where
@@ -208,10 +220,14 @@ module _ {N K D : ℕ} {ds ps cs : List ℕ} {ns : List ℤ} (w : Ready N K D ds
 
         module _ (i j : ℕ) (p : bitAt there i ≡ true) (q : bitAt here j ≡ true) where
           by-ways-rest : remainderByWays D ds ways′ i j ≡ rest i j
-          by-ways-rest = by-ways-is D ds ways′ i j ∙ ap₂ (λ y z. pos D *ℤ distanceOf ds i j -ℤ y -ℤ z) (climbs′ i (at-there i p .0)) (climbs′ j (at-here j q .0))
-              ∙ less-two (pos D *ℤ distanceOf ds i j) (climbed par (entryOf ns) (suc v) i) (climbed par (entryOf ns) (suc v) j)
-              ∙ ap (λ y. pos D *ℤ distanceOf ds i j -ℤ y)
-              (sym (along-sym par K (entryOf ns) i j ∙ path-turns par K (w .standing .allowed .up) v j i edge (w .standing .allowed .top v edge) (at-here j q .1) (at-there i p .1) (entryOf ns)))
+          by-ways-rest = go (measuredOf ds i j) refl
+            where
+              go : (b : Bool) → measuredOf ds i j ≡ b → remainderByWays D ds ways′ i j ≡ rest i j
+              go true m = rw m (by-ways-is D ds ways′ i j m ∙ ap₂ (λ y z. pos D *ℤ distanceOf ds i j -ℤ y -ℤ z) (climbs′ i (at-there i p .0)) (climbs′ j (at-here j q .0))
+                  ∙ less-two (pos D *ℤ distanceOf ds i j) (climbed par (entryOf ns) (suc v) i) (climbed par (entryOf ns) (suc v) j)
+                  ∙ ap (λ y. pos D *ℤ distanceOf ds i j -ℤ y)
+                  (sym (along-sym par K (entryOf ns) i j ∙ path-turns par K (w .standing .allowed .up) v j i edge (w .standing .allowed .top v edge) (at-here j q .1) (at-there i p .1) (entryOf ns))))
+              go false m = rw m (by-ways-none D ds ways′ i j m)
 
           apart-two : i ≢ j
           apart-two e = never-both j (at-here j q .1) (ap (lift par v) (sym e) ∙ at-there i p .1)
@@ -229,7 +245,7 @@ module _ {N K D : ℕ} {ds ps cs : List ℕ} {ns : List ℤ} (w : Ready N K D ds
 
         -- what the pairs that meet here give edge u
         new-pairs : (u : ℕ) → u < K → over here (λ j. over there (λ i. (bit par u i +ℤ bit par u j -ℤ pos 2 *ℤ bit par u m) *ℤ remainderByWays D ds ways′ i j))
-            ≡ pairs N (λ p. (stands par v v (p .0) *ℤ stands par v m (p .1) +ℤ stands par v m (p .0) *ℤ stands par v v (p .1)) *ℤ share N K D ds ps ns u p)
+            ≡ pairs N (λ p. (stands par v v (p .0) *ℤ stands par v m (p .1) +ℤ stands par v m (p .0) *ℤ stands par v v (p .1)) *ℤ share K D ds ps ns u p)
         new-pairs u l =
             over-cong here _ (λ j. over there (λ i. f i j)) (λ j q. over-cong there _ (λ i. f i j) (λ i p. ap₂ _*ℤ_ (parts-two i j p q u l) (by-ways-rest i j p q)))
             ∙ ap (λ (k : ℕ). over k (λ j. over there (λ i. f i j))) here-is
@@ -245,7 +261,7 @@ module _ {N K D : ℕ} {ds ps cs : List ℕ} {ns : List ℤ} (w : Ready N K D ds
             off i = apart-at par v m i (omega (arith, up))
 
             at-last : pairs N (λ p. (bit par v (p .0) *ℤ stands par v m (p .1) +ℤ stands par v m (p .0) *ℤ bit par v (p .1)) *ℤ f (p .0) (p .1))
-                ≡ pairs N (λ p. (stands par v v (p .0) *ℤ stands par v m (p .1) +ℤ stands par v m (p .0) *ℤ stands par v v (p .1)) *ℤ share N K D ds ps ns u p)
+                ≡ pairs N (λ p. (stands par v v (p .0) *ℤ stands par v m (p .1) +ℤ stands par v m (p .0) *ℤ stands par v v (p .1)) *ℤ share K D ds ps ns u p)
             at-last = unfold below in pairs-cong N (λ p a _. ap (λ y. (stands par v v (p .0) *ℤ stands par v m (p .1) +ℤ stands par v m (p .0) *ℤ stands par v v (p .1)) *ℤ (ind (parts par u (p .0) (p .1)) *ℤ y)) (rest-remainder (p .0) (p .1) a))
 
         pub gather-turn : {own′ : List ℤ} → Met N D ds ways′ here there m own own′
@@ -260,7 +276,7 @@ module _ {N K D : ℕ} {ds ps cs : List ℕ} {ns : List ℤ} (w : Ready N K D ds
           climbs = climbs′;
           light = omega (arith, a .more, g .light, pairs-few);
           entries = λ u l. a .entries par u ∙ ap₂ _+ℤ_ (g .entries u l) (new-pairs u l)
-              ∙ sym (pairs-sums N .add (λ p. ind (together par v p) *ℤ share N K D ds ps ns u p) (λ p. (stands par v v (p .0) *ℤ stands par v m (p .1) +ℤ stands par v m (p .0) *ℤ stands par v v (p .1)) *ℤ share N K D ds ps ns u p))
-              ∙ pairs-cong N (λ p _ _. sym (ap (λ y. y *ℤ share N K D ds ps ns u p) (together-more par v up p)
-              ∙ by-ring (ind (together par v p) ∷ stands par v v (p .0) ∷ stands par v m (p .1) ∷ stands par v m (p .0) ∷ stands par v v (p .1) ∷ share N K D ds ps ns u p ∷ []) (search quote depth 20) tt));
+              ∙ sym (pairs-sums N .add (λ p. ind (together par v p) *ℤ share K D ds ps ns u p) (λ p. (stands par v v (p .0) *ℤ stands par v m (p .1) +ℤ stands par v m (p .0) *ℤ stands par v v (p .1)) *ℤ share K D ds ps ns u p))
+              ∙ pairs-cong N (λ p _ _. sym (ap (λ y. y *ℤ share K D ds ps ns u p) (together-more par v up p)
+              ∙ by-ring (ind (together par v p) ∷ stands par v v (p .0) ∷ stands par v m (p .1) ∷ stands par v m (p .0) ∷ stands par v v (p .1) ∷ share K D ds ps ns u p ∷ []) (search quote depth 20) tt));
         })

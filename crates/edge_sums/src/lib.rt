@@ -36,7 +36,7 @@ fn shares(
     requires { ⌜ Ready n edges d (now distances) (now parents) (now masks) (now numerators) ⌝ }
     requires { ⌜ InRange edges (now numerators) ⌝ }
     ensures { λ r. ⌜ (length r ≡ maxVertices) × (mass maxVertices r < 2 ^ 63) ⌝ }
-    ensures { λ r. ⌜ ((v : ℕ) → v < edges → under (parentOf (now (parents .entry))) r v ≡ pairs n (share n edges d (now (distances .entry)) (now (parents .entry)) (now (numerators .entry)) v)) ⌝ }
+    ensures { λ r. ⌜ ((v : ℕ) → v < edges → under (parentOf (now (parents .entry))) r v ≡ pairs n (share edges d (now (distances .entry)) (now (parents .entry)) (now (numerators .entry)) v)) ⌝ }
 {
     let mut own = meeting::no_shares();
     let mut ways = meeting::no_ways();

@@ -13,7 +13,7 @@ use native.Mathlib.Omega.{arith}
 use lib.IntN.{ℤ, pos, negsuc, negℤ, _+ℤ_, _-ℤ_, _*ℤ_, *ℤ-zero, zero-*ℤ}
 use Rattle.exact.specs.Order.{_≤ᶻ_, _<ᶻ_, Within}
 use Rattle.exact.specs.Sum.{sum, ind, Sums}
-use Rattle.exact.specs.LeastSquares.{sq, path, hops, remainder, edgeSum, Equations, sumF, sumX, sumR, sumH, Near, Minimum, Rounding, Any, NotNegative, Conditions}
+use Rattle.exact.specs.LeastSquares.{sq, path, hops, remainder, edgeSum, Equations, sumF, sumX, sumR, sumH, Near, Minimum, Rounding, ClosePaths, Any, NotNegative, Conditions}
 use Rattle.exact.proofs.Ring.{*ℤ-left-comm}
 use Rattle.exact.proofs.Quote.{by-ring, quote}
 use Rattle.exact.proofs.Order.{nn+, nn*, nn-pos, nn-sq, nn-sub, le-by, *-cancel, sq-pos, ≤-of-≡, ≤-antisym, ≤-trans, <-is, total}
@@ -125,7 +125,7 @@ module _ {I : Type 0} {S : (I → ℤ) → ℤ} (L : Sums S) (K : ℕ) (parts : 
       (unfold path hops in
       within-weighted K D (λ v. ind (parts v p)) (λ v. pos 2 *ℤ (pos 1000 *ℤ n v -ℤ D *ℤ m v)) (λ v l. ind-nn (parts v p)) near)
 
-  paths-by : (p : I) → Within (hops K parts p *ℤ D) (pos 2000 *ℤ path K parts n p -ℤ pos 2 *ℤ (D *ℤ path K parts m p))
+  pub paths-by : ClosePaths K parts D n m
   paths-by p = subst₂ Within (by-ring (D ∷ hops K parts p ∷ []) (search quote depth 20) tt)
       (ap (λ y. pos 2 *ℤ y) (path-lin K parts (pos 1000) D n m p)
       ∙ by-ring (D ∷ path K parts n p ∷ path K parts m p ∷ []) (search quote depth 20) tt)

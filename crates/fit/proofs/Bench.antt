@@ -6,10 +6,10 @@ use Rattle.exact.specs.Table.{tableFrom}
 use Rattle.exact.specs.LeastSquares.{path, hops}
 use Rattle.exact.specs.Nearest.{nearest}
 use Rattle.verdict.specs.Table.{first, some, count}
-use Rattle.matrix.specs.Place.{place}
+use Rattle.matrix.specs.Place.{place, known}
 use Rattle.trees.specs.Chain.{lift, below, parts}
 use Rattle.fit.specs.Figures.{benchHolds}
 
 pub bench : benchHolds ≡ true
-unfolding sum pairs ind tableFrom path hops nearest some first count place lift below parts
+unfolding sum pairs ind tableFrom path hops nearest some first count place known lift below parts
 bench = refl

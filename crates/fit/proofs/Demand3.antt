@@ -20,12 +20,12 @@ use Rattle.exact.proofs.Quote.{by-ring, quote}
 use Rattle.exact.proofs.Order.{nn+, nn*, nn-pos, nn-sq, nn-sub, le-by, pos-≤, is-<, *-cancel, ≤-trans}
 use Rattle.exact.proofs.Sum.{pairs-sums, S-sq}
 use Rattle.exact.proofs.Sign.{natAbs-sub, within→abs, abs→within}
-use Rattle.exact.proofs.LeastSquares.{minimum, rounding}
+use Rattle.exact.proofs.LeastSquares.{minimum, rounding, paths-by}
 use Rattle.exact.proofs.Rounding.{nearest-near}
 use Rattle.exact.proofs.Sweep.{sweep-end, sweep-within, sweep-nn, sweep-le, term-le}
 use Rattle.matrix.specs.Place.{distance}
 use Rattle.exact.specs.Table.{entryOf}
-use Rattle.fit.specs.Quantities.{partsOf, rOf}
+use Rattle.fit.specs.Quantities.{partsOf, partsIn, roundedOf, rOf}
 use Rattle.fit.specs.Stands.{Stands, Least}
 use Rattle.fit.proofs.Ranges.{Bounds, bounds, mul-abs, path-abs, hops-sweep}
 
@@ -49,6 +49,11 @@ pairs-abs : (N b : ℕ) (f : ℕ × ℕ → ℤ) → N ≤ 64 → ((p : ℕ × �
 pairs-abs N b f few h = subst (λ y. natAbs y ≤ 2016 * b) (sweep-end f N)
     (sweep-within N b f few (λ p _ _. h p) N 0 (le-refl N) (omega arith) (inr refl))
 
+-- ---- H over any incidence of few edges: at most 2016 * 125²
+pub h-high : (K : ℕ) → K ≤ 125 → (parts : ℕ → ℕ × ℕ → Bool) (N : ℕ) → N ≤ 64 → sumH (pairs N) K parts ≤ᶻ pos 31500000
+h-high K few parts N small = abs→within 31500000 (sumH (pairs N) K parts) (subst (λ y. natAbs y ≤ 31500000) (sweep-end (λ p. sq (hops K parts p)) N)
+    (hops-sweep K parts few N small N 0 (le-refl N) (omega arith) (inr refl))) .high
+
 -- ---- R of a rounding that is close to a fit, over any incidence of few edges and distances in range
 module _ (K : ℕ) (d : ℕ × ℕ → ℤ) (few : K ≤ 125) (near : (p : ℕ × ℕ) → natAbs (d p) ≤ 50000) (parts : ℕ → ℕ × ℕ → Bool) (N : ℕ) (small : N ≤ 64) where
   -- the sum of d², as X of lengths that are all 0: at most 2016 * 50000²
@@ -64,13 +69,9 @@ module _ (K : ℕ) (d : ℕ × ℕ → ℤ) (few : K ≤ 125) (near : (p : ℕ �
         path-abs K parts (λ _. pos 0) 0 few (λ v _. omega arith) p,
       )
 
-  H-high : sumH (pairs N) K parts ≤ᶻ pos 31500000
-  H-high = abs→within 31500000 (sumH (pairs N) K parts) (subst (λ y. natAbs y ≤ 31500000) (sweep-end (λ p. sq (hops K parts p)) N)
-      (hops-sweep K parts few N small N 0 (le-refl N) (omega arith) (inr refl))) .high
-
   pub close-high : (D : ℤ) (n m : ℕ → ℤ) → Rounding (pairs N) K parts d D n m Any → sumR (pairs N) K parts d m ≤ᶻ pos 5040000000007875000
   close-high D n m close = cancel-4 (sumR (pairs N) K parts d m) X (sumH (pairs N) K parts)
-      (close .close (pos 1) (λ _. pos 0) record {}) (abs→within 5040000000000 X zero-X .high) H-high
+      (close .close (pos 1) (λ _. pos 0) record {}) (abs→within 5040000000000 X zero-X .high) (h-high K few parts N small)
     where
       X : ℤ
       X = sumX (pairs N) K parts d (pos 1) (λ _. pos 0)
@@ -133,11 +134,12 @@ module _ (N : ℕ) (ds ps : List ℕ) (D : ℕ) (ns : List ℤ) (s : Stands N ds
 
   pub least : Least N ds ps D ns
   least = record {
-    minimum = fit-minimum limits (partsOf ps) N (s .matrix .few) (s .equations);
-    rounding = fit-rounding limits (partsOf ps) N (s .matrix .few) (s .equations);
-    f-low = f-low limits (partsOf ps) N (s .matrix .few) (s .equations);
-    f-high = f-high limits (partsOf ps) N (s .matrix .few) (s .equations);
+    minimum = fit-minimum limits (partsIn ds ps) N (s .matrix .few) (s .equations);
+    rounding = fit-rounding limits (partsIn ds ps) N (s .matrix .few) (s .equations);
+    paths = paths-by (pairs-sums N) (length ps) (partsOf ps) (distance ds) (pos D) (entryOf ns) (roundedOf D ns) (λ v _. nearest-near D (entryOf ns v) (limits .one));
+    f-low = f-low limits (partsIn ds ps) N (s .matrix .few) (s .equations);
+    f-high = f-high limits (partsIn ds ps) N (s .matrix .few) (s .equations);
   }
 
   pub r-range : (pos 0 ≤ᶻ rOf N ds ps D ns) × (rOf N ds ps D ns ≤ᶻ pos 5040000000007875000)
-  r-range = (r-low limits (partsOf ps) N (s .matrix .few) (s .equations), r-high limits (partsOf ps) N (s .matrix .few) (s .equations))
+  r-range = (r-low limits (partsIn ds ps) N (s .matrix .few) (s .equations), r-high limits (partsIn ds ps) N (s .matrix .few) (s .equations))

@@ -6,3 +6,5 @@ pub mod Demand3
 pub mod OneFit
 pub mod Steps
 pub mod Placed
+pub mod Complete
+pub mod Measured

@@ -1,7 +1,7 @@
--- RULES, One fit only: `one-fit` for every proposal that stands, `accepted-one` and `accepted-agree` for every input
+-- RULES, One fit only, of a complete matrix: `one-fit` for every proposal that stands, `accepted-one` and `accepted-agree` for every input
 -- that `judge` accepts. An allowed tree's incidence has no kernel (trees' `no-kernel`), so its paths settle every
 -- table, and exact's theorem over any such incidence does the rest.
-use mathlib.Core.Path.{_≡_}
+use mathlib.Core.Path.{_≡_, sym, subst}
 use mathlib.Core.List.{List}
 use Prim.Native.Nat.{ℕ, _<_}
 use lib.IntN.{ℤ, pos, _*ℤ_}
@@ -12,32 +12,33 @@ use Rattle.exact.specs.LeastSquares.{path}
 use Rattle.exact.proofs.Sum.{pairs-sums}
 use Rattle.exact.proofs.Sweep.{squares-none}
 use Rattle.exact.proofs.OneFit.{Settles, agree, strict}
-use Rattle.matrix.specs.Place.{distance}
+use Rattle.matrix.specs.Place.{distance, Complete}
 use Rattle.trees.specs.Chain.{parentOf}
 use Rattle.trees.specs.Allowed.{Allowed}
 use Rattle.trees.proofs.Kernel.{no-kernel}
 use Rattle.exact.specs.Table.{entryOf}
-use Rattle.fit.specs.Quantities.{partsOf}
+use Rattle.fit.specs.Quantities.{partsOf, partsIn}
 use Rattle.fit.specs.Tests.{judgeTests}
 use Rattle.fit.specs.Stands.{Stands, OneFit}
+use Rattle.fit.proofs.Complete.{complete-parts}
 use Rattle.fit.proofs.Exactly.{→stands}
 
 -- the pairs of strains settle every edge of an allowed tree
-settles : (N : ℕ) (ps : List ℕ) → Allowed N (length ps) (parentOf ps) → Settles (pairs N) (length ps) (partsOf ps)
-settles N ps ok x e = no-kernel N (length ps) (parentOf ps) ok x (squares-none N (path (length ps) (partsOf ps) x) e)
+settles : (N : ℕ) (ds ps : List ℕ) → Complete ds → Allowed N (length ps) (parentOf ps) → Settles (pairs N) (length ps) (partsIn ds ps)
+settles N ds ps all ok = subst (Settles (pairs N) (length ps)) (sym (complete-parts ds ps all)) (λ x e. no-kernel N (length ps) (parentOf ps) ok x (squares-none N (path (length ps) (partsOf ps) x) e))
 
 module _ (N : ℕ) (ds ps : List ℕ) (D : ℕ) (ns : List ℤ) where
-  pub one-fit : Stands N ds ps D ns → OneFit N ds ps D ns
-  one-fit s = record {
-    agree = λ D′ ns′ s′. agree (pairs-sums N) (length ps) (partsOf ps) (distance ds) (pos D) (entryOf ns) (s .equations) (settles N ps (s .tree)) (pos D′) (entryOf ns′) (s′ .equations);
-    strict = strict (pairs-sums N) (length ps) (partsOf ps) (distance ds) (pos D) (entryOf ns) (s .equations) (settles N ps (s .tree));
+  pub one-fit : Complete ds → Stands N ds ps D ns → OneFit N ds ps D ns
+  one-fit all s = record {
+    agree = λ D′ ns′ s′. agree (pairs-sums N) (length ps) (partsIn ds ps) (distance ds) (pos D) (entryOf ns) (s .equations) (settles N ds ps all (s .tree)) (pos D′) (entryOf ns′) (s′ .equations);
+    strict = strict (pairs-sums N) (length ps) (partsIn ds ps) (distance ds) (pos D) (entryOf ns) (s .equations) (settles N ds ps all (s .tree));
   }
 
   -- for every input that `judge` accepts
-  pub accepted-one : judgeTests N ds ps D ns ≡ pass → OneFit N ds ps D ns
-  accepted-one e = one-fit (→stands N ds ps D ns e)
+  pub accepted-one : Complete ds → judgeTests N ds ps D ns ≡ pass → OneFit N ds ps D ns
+  accepted-one all e = one-fit all (→stands N ds ps D ns e)
 
   -- two that it accepts
-  pub accepted-agree : judgeTests N ds ps D ns ≡ pass → (D′ : ℕ) (ns′ : List ℤ) → judgeTests N ds ps D′ ns′ ≡ pass
+  pub accepted-agree : Complete ds → judgeTests N ds ps D ns ≡ pass → (D′ : ℕ) (ns′ : List ℤ) → judgeTests N ds ps D′ ns′ ≡ pass
       → (v : ℕ) → v < length ps → pos D′ *ℤ entryOf ns v ≡ pos D *ℤ entryOf ns′ v
-  accepted-agree e D′ ns′ e′ = accepted-one e .agree D′ ns′ (→stands N ds ps D′ ns′ e′)
+  accepted-agree all e D′ ns′ e′ = accepted-one all e .agree D′ ns′ (→stands N ds ps D′ ns′ e′)

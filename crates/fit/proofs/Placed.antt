@@ -1,6 +1,7 @@
--- Where a refusal of a proposal points: a vertex of the tree, an edge, or for 14 the lowest edge whose sum is not zero, with that sum.
+-- Where a refusal of a proposal points: a vertex of the tree, an edge, for 26 the lowest that parts no measured pair, or for 14 the
+-- lowest edge whose sum is not zero, with that sum.
 use mathlib.Core.Path.{_≡_, refl, sym, _∙_, ap}
-use mathlib.Core.Bool.{true, false, not, true≢false}
+use mathlib.Core.Bool.{Bool, true, false, not, true≢false}
 use mathlib.Core.List.{List}
 use Prim.Native.Nat.{ℕ, _+_, _≤_, _<_}
 use native.Mathlib.Omega.{arith}
@@ -17,7 +18,9 @@ use Rattle.trees.specs.Chain.{parentOf}
 use Rattle.trees.specs.Tests.{verticesOut, parentOut, parentFault, childrenFew, treeTests}
 use Rattle.lengths.specs.Tests.{edgesOut, denominatorOut, numeratorOut, lengthsTests}
 use Rattle.fit.specs.Quantities.{edgeSumOf}
-use Rattle.fit.specs.Tests.{notZero, sumsTests, proposalTests, judgeTests}
+use Rattle.fit.specs.Tests.{notZero, sumsTests, shapeTests, unseen, seenTests, postedTests, proposalTests, judgeTests}
+use Rattle.fit.specs.Stands.{Seen}
+use Rattle.fit.proofs.Exactly.{seen→, →seen}
 use Rattle.fit.proofs.Zeros.{abs-zero}
 
 -- an edge whose sum is not zero, with that sum, below which every sum is zero
@@ -27,13 +30,24 @@ pub record Lowest (K : ℕ) (x : ℕ → ℤ) (v : ℕ) (z : ℤ) : Type 0 where
   pub some : natAbs z ≡ 0 → ⊥
   pub below : (u : ℕ) → u < v → x u ≡ pos 0
 
+-- an edge that parts no measured pair, below which every edge parts one
+pub record LowestUnseen (N : ℕ) (ds ps : List ℕ) (v : ℕ) : Type 0 where
+  pub edge : v < length ps
+  pub none : Seen N ds ps v → ⊥
+  pub below : (u : ℕ) → u < v → Seen N ds ps u
+
 module _ (N : ℕ) (ds ps : List ℕ) (D : ℕ) (ns : List ℤ) where
-  -- the place of a refusal: no byte, a vertex, an edge with a numerator, or the lowest edge at fault
+  -- the place of an edge: for 26 the lowest that parts no measured pair, else one with a numerator
+  abbrev EdgePlaced : Bool → ℕ → Type 0
+  EdgePlaced true v = LowestUnseen N ds ps v
+  EdgePlaced false v = v < length ns
+
+  -- the place of a refusal: no byte, a vertex, an edge (with a numerator where that is at fault), or the lowest edge at fault with its sum
   abbrev pub Placed : ℕ → Place → Type 0
   Placed k Nowhere = Unit {0}
   Placed k (Byte b) = ⊥
   Placed k (Vertex v) = v ≤ length ps
-  Placed k (Edge v) = v < length ns
+  Placed k (Edge v) = EdgePlaced (eqb k 26) v
   Placed k (EdgeSum v z) = Lowest (length ps) (edgeSumOf N ds ps D ns) v z
 
   of-tree : Of Placed (treeTests N ps)
@@ -66,6 +80,10 @@ module _ (N : ℕ) (ds ps : List ℕ) (D : ℕ) (ns : List ℤ) where
       not-both : (m : ℕ) → m ≡ 0 → not (eqb m 0) ≡ true → ⊥
       not-both m z e = true≢false (sym e ∙ ap (λ (k : ℕ). not (eqb k 0)) z)
 
+  of-seen : Of Placed (seenTests N ds ps)
+  of-seen = of-first Placed (length ps) (unseen N ds ps) (λ v. fault 26 (Edge v))
+      (λ i h e r. record { edge = h; none = λ s. true≢false (sym e ∙ seen→ N ds ps i s); below = λ u l. →seen N ds ps u (r u l) })
+
   of-matrix : Of Placed (matrixTests N ds)
   of-matrix =
       of-row Placed (test 4 (countOut N ds)) (test 6 (strainsOut N) orElse test 7 (distanceOut ds)) (of-test Placed 4 Nowhere (countOut N ds) tt)
@@ -73,5 +91,6 @@ module _ (N : ℕ) (ds ps : List ℕ) (D : ℕ) (ns : List ℤ) where
 
   pub placed : (k : ℕ) (p : Place) → judgeTests N ds ps D ns ≡ fault k p → Placed k p
   placed k p e = of-refusal Placed (judgeTests N ds ps D ns) k p
-      (of-row Placed (matrixTests N ds orElse treeTests N ps) (proposalTests N ds ps D ns) (of-row Placed (matrixTests N ds) (treeTests N ps) of-matrix of-tree)
+      (of-row Placed (postedTests N ds ps) (proposalTests N ds ps D ns)
+      (of-row Placed (shapeTests N ds ps) (seenTests N ds ps) (of-row Placed (matrixTests N ds) (treeTests N ps) of-matrix of-tree) of-seen)
       (of-row Placed (lengthsTests (length ps) D ns) (sumsTests N ds ps D ns) of-lengths of-sums)) e

@@ -23,6 +23,7 @@ use Rattle.exact.proofs.Rounding.{nearest-bound}
 use Rattle.exact.proofs.Sweep.{sum-abs, ind-one, chosen-sum-abs, sweep-within}
 use Rattle.matrix.specs.Place.{place, distance}
 use Rattle.matrix.specs.Proper as matrix
+use Rattle.matrix.proofs.Completes.{known-near}
 use Rattle.lengths.specs.Proper as lengths
 use Rattle.exact.specs.Table.{entryOf}
 
@@ -34,13 +35,9 @@ pub record Bounds (K : ℕ) (d : ℕ × ℕ → ℤ) (D : ℕ) (n : ℕ → ℤ)
   pub distances : (p : ℕ × ℕ) → natAbs (d p) ≤ 50000
   pub numerators : (v : ℕ) → v < K → natAbs (n v) ≤ 100000000000
 
--- no distance is above 50,000; where the list ends, 0 is read
+-- no distance is above 50,000
 pub distance-near : {N : ℕ} {ds : List ℕ} → matrix.Proper N ds → (p : ℕ × ℕ) → natAbs (distance ds p) ≤ 50000
-distance-near {N} {ds} m p = go (lt-or-ge (place (p .0) (p .1)) (length ds))
-  where
-    go : (place (p .0) (p .1) < length ds) ⊎ (length ds ≤ place (p .0) (p .1)) → getD ds (place (p .0) (p .1)) 0 ≤ 50000
-    go (inl l) = m .near (place (p .0) (p .1)) l
-    go (inr l) = omega (arith, List·getD-eq-default ds 0 l)
+distance-near m p = known-near m (place (p .0) (p .1))
 
 pub bounds : {N : ℕ} {ds : List ℕ} {K D : ℕ} {ns : List ℤ} → matrix.Proper N ds → lengths.Proper K D ns → Bounds K (distance ds) D (entryOf ns)
 bounds m l = record {

@@ -1,26 +1,28 @@
 -- Split sums by the paper's equations. The idea: below an inner vertex is what is below its children, each strain below one of them; so of a
 -- pair below two different children each child's edge parts it and the vertex's does not, and all other pairs count alike on both sides.
 use mathlib.Core.Path.{_≡_, refl, sym, _∙_, ap, ap₂}
-use mathlib.Core.Bool.{Bool, true, false, not}
+use mathlib.Core.Bool.{Bool, true, false, not, _&&_}
 use mathlib.Core.List.{List, [], _∷_}
 use mathlib.Core.Logic.{_≢_}
 use Prim.Native.Nat.{ℕ, _≤_, _<_}
 use native.Mathlib.Omega.{arith}
 use lib.Dec.{eqb}
-use lib.IntN.{ℤ, pos, negsuc, _+ℤ_, _-ℤ_, _*ℤ_, +ℤ-idr, zero-*ℤ}
+use lib.IntN.{ℤ, pos, negsuc, _+ℤ_, _-ℤ_, _*ℤ_, +ℤ-idr, zero-*ℤ, *ℤ-zero}
 use lib.ListN.{length, getD}
 use Rattle.exact.specs.Sum.{sum, pairs, ind, Sums}
 use Rattle.exact.proofs.Decide.{eq-yes, eq-no}
 use Rattle.exact.proofs.Quote.{by-ring, quote}
 use Rattle.exact.proofs.Ring.{*ℤ-oneˡ}
 use Rattle.exact.proofs.Sum.{sum-cong, sum-+, sum-*, sum-*ʳ, sum-one, sum-at, sum-zero, pairs-cong, pairs-sums, S-swap, ind-sq, ind-yes, ind-no}
-use Rattle.matrix.specs.Place.{distance, distanceOf}
+use Rattle.matrix.specs.Place.{place, isMeasured, known, distance, distanceOf}
 use Rattle.trees.specs.Allowed.{Allowed}
 use Rattle.trees.specs.Chain.{parentOf, kid, parts, partsPair}
 use Rattle.trees.proofs.Chains.{Up, bit, parts-ind, children, partition}
+use Rattle.matrix.proofs.Looking.{known-none}
 use Rattle.matrix.proofs.Places.{pair-place-up, pair-place-sym}
 use Rattle.exact.proofs.Square.{square}
-use Rattle.fit.specs.Quantities.{splitSum}
+use Rattle.fit.specs.Quantities.{partsOf, splitSum}
+use Rattle.fit.proofs.Complete.{and-true}
 use Rattle.fit.specs.Steps.{rowSum, across, SplitSteps}
 
 -- ---- equation 9
@@ -41,6 +43,14 @@ alone N K par w i a h = children par K (w .up) i a (omega (arith, w .edges))
     ∙ ap (λ y. ind (eqb a i) +ℤ y) (sum-cong K (λ u l. ap (λ y. y *ℤ bit par u a) (ind-no (eq-no {a = par u} {b = i} (omega (arith, w .inner u l)))) ∙ zero-*ℤ (bit par u a)) ∙ sum-zero K)
     ∙ +ℤ-idr (ind (eqb a i))
 
+-- a pair that is not measured adds nothing to a sum of distances, so a split sum may run over all pairs that the edge parts
+pub all-parted : (N : ℕ) (ds ps : List ℕ) (v : ℕ) → splitSum N ds ps v ≡ pairs N (λ p. ind (partsOf ps v p) *ℤ distance ds p)
+all-parted N ds ps v = pairs-cong N (λ p _ _. at (partsOf ps v p) (getD ds (place (p .0) (p .1)) 0) (isMeasured (getD ds (place (p .0) (p .1)) 0)) refl)
+  where
+    at : (b : Bool) (x : ℕ) (m : Bool) → isMeasured x ≡ m → ind (b && isMeasured x) *ℤ pos (known x) ≡ ind b *ℤ pos (known x)
+    at b x true e = ap (λ (c : Bool). ind (b && c) *ℤ pos (known x)) e ∙ ap (λ (c : Bool). ind c *ℤ pos (known x)) (and-true b)
+    at b x false e = ap (λ (k : ℕ). ind (b && isMeasured x) *ℤ pos k) (known-none x e) ∙ *ℤ-zero (ind (b && isMeasured x)) ∙ sym (ap (λ (k : ℕ). ind b *ℤ pos k) (known-none x e) ∙ *ℤ-zero (ind b))
+
 module _ (N : ℕ) (ds ps : List ℕ) (w : Allowed N (length ps) (parentOf ps)) (i : ℕ) (h : i < N) where
   at-strain : (p : ℕ × ℕ) → ind (parts (parentOf ps) i (p .0) (p .1)) ≡ ind (eqb (p .0) i) *ℤ ind (not (eqb (p .1) i)) +ℤ ind (not (eqb (p .0) i)) *ℤ ind (eqb (p .1) i)
   at-strain p = parts-ind (parentOf ps) i (p .0) (p .1)
@@ -50,8 +60,9 @@ module _ (N : ℕ) (ds ps : List ℕ) (w : Allowed N (length ps) (parentOf ps)) 
 
   row : splitSum N ds ps i ≡ rowSum N ds i
   row = unfold rowSum in
-      pairs-cong N (λ p l _. ap₂ _*ℤ_ (at-strain p) (ap (λ (k : ℕ). pos (getD ds k 0)) (sym (pair-place-up (p .0) (p .1) l))))
-      ∙ sym (square (λ j. ind (eqb j i)) (λ j. ind (not (eqb j i))) (λ a b. distanceOf ds a b) (λ j. never (eqb j i)) (λ a b. ap (λ (k : ℕ). pos (getD ds k 0)) (pair-place-sym a b)) N)
+      all-parted N ds ps i
+      ∙ pairs-cong N (λ p l _. ap₂ _*ℤ_ (at-strain p) (ap (λ (k : ℕ). pos (known (getD ds k 0))) (sym (pair-place-up (p .0) (p .1) l))))
+      ∙ sym (square (λ j. ind (eqb j i)) (λ j. ind (not (eqb j i))) (λ a b. distanceOf ds a b) (λ j. never (eqb j i)) (λ a b. ap (λ (k : ℕ). pos (known (getD ds k 0))) (pair-place-sym a b)) N)
       ∙ sum-at N i (λ j. sum N (λ k. ind (not (eqb k i)) *ℤ distanceOf ds k j)) h
 
 -- ---- equation 14
@@ -123,5 +134,7 @@ module _ (N K : ℕ) (par : ℕ → ℕ) (up : Up par K) (d : ℕ × ℕ → ℤ
 pub split-steps : (N : ℕ) (ds ps : List ℕ) → Allowed N (length ps) (parentOf ps) → SplitSteps N ds ps
 split-steps N ds ps w = record {
   outer = λ i h. row N ds ps w i h;
-  inner = λ v h l. joined N (length ps) (parentOf ps) (w .up) (distance ds) v h (omega arith);
+  inner = λ v h l. all-parted N ds ps v ∙ joined N (length ps) (parentOf ps) (w .up) (distance ds) v h (omega arith)
+      ∙ ap (λ y. y -ℤ pos 2 *ℤ pairs N (λ p. across (length ps) (parentOf ps) v p *ℤ distance ds p))
+      (sum-cong (length ps) (λ u _. ap (λ y. ind (kid (parentOf ps) v u) *ℤ y) (sym (all-parted N ds ps u))));
 }

@@ -12,7 +12,7 @@ use Rattle.exact.specs.Nearest.{nearest}
 use Rattle.exact.specs.Sum.{pairs}
 use Rattle.exact.specs.Table.{table, entryOf}
 use Rattle.matrix.specs.Place.{distance}
-use Rattle.fit.specs.Quantities.{partsOf, fOf, rOf, hOf, roundedOf, pathOf, remainderOf, splitSum}
+use Rattle.fit.specs.Quantities.{partsIn, fOf, rOf, hOf, roundedOf, pathOf, remainderOf, splitSum}
 use Rattle.fit.specs.Tests.{judgeTests}
 
 -- a proposal, and what the bench expects of it; of a refused one only the number
@@ -30,7 +30,7 @@ abbrev pub valuesOf : Figure → List ℤ
 valuesOf g =
     fOf (g .strains) (g .distances) (g .parents) (g .denominator) (g .numerators)
     ∷ rOf (g .strains) (g .distances) (g .parents) (g .denominator) (g .numerators)
-    ∷ hOf (g .strains) (g .parents)
+    ∷ hOf (g .strains) (g .distances) (g .parents)
     ∷ table (length (g .parents)) (roundedOf (g .denominator) (g .numerators))
 
 abbrev pub same : ℤ → ℤ → Bool
@@ -189,7 +189,7 @@ roundings =
 -- would be false there
 -- X of the table xs over Q
 abbrev pub xOf : ℕ → List ℕ → List ℕ → ℕ → List ℤ → ℤ
-xOf N ds ps Q xs = sumX (pairs N) (length ps) (partsOf ps) (distance ds) (pos Q) (entryOf xs)
+xOf N ds ps Q xs = sumX (pairs N) (length ps) (partsIn ds ps) (distance ds) (pos Q) (entryOf xs)
 
 -- A's own lengths: Q²·D·F is D²·X
 abbrev pub leastThere : Bool
@@ -207,7 +207,7 @@ abbrev pub thousandA : List ℤ
 thousandA = pos 3000 ∷ pos 3000 ∷ pos 3000 ∷ pos 7000 ∷ pos 7000 ∷ []
 
 abbrev pub millionsThere : Bool
-millionsThere = leZ (pos (4 * (2 * 2)) *ℤ rOf 4 thousandfold parentsA 2 thousandA) (pos 4000000 *ℤ xOf 4 thousandfold parentsA 2 thousandA +ℤ pos (2 * 2) *ℤ hOf 4 parentsA)
+millionsThere = leZ (pos (4 * (2 * 2)) *ℤ rOf 4 thousandfold parentsA 2 thousandA) (pos 4000000 *ℤ xOf 4 thousandfold parentsA 2 thousandA +ℤ pos (2 * 2) *ℤ hOf 4 thousandfold parentsA)
 
 -- the star of four strains, whose lengths are not whole thousandths: without Q²·H the rounding would not be close
 abbrev pub starNumerators : List ℤ
@@ -218,7 +218,7 @@ starDistances = 1 ∷ 0 ∷ 0 ∷ 0 ∷ 0 ∷ 0 ∷ []
 
 abbrev pub roundingThere : Bool
 roundingThere = leZ (pos (4 * (6 * 6)) *ℤ rOf 4 starDistances (starOf 4) 6 starNumerators)
-    (pos 4000000 *ℤ xOf 4 starDistances (starOf 4) 6 starNumerators +ℤ pos (6 * 6) *ℤ hOf 4 (starOf 4))
+    (pos 4000000 *ℤ xOf 4 starDistances (starOf 4) 6 starNumerators +ℤ pos (6 * 6) *ℤ hOf 4 starDistances (starOf 4))
 
 -- the path 02 there: 2000·p less 2·D·path(m) is 8, within h·D = 12
 abbrev pub pathsThere : Bool

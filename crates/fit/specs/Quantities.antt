@@ -1,6 +1,6 @@
 -- The quantities of RULES, Clusters to The numbers of a fit: of a matrix ds of N strains, a tree ps, a denominator D
 -- and numerators ns. Each is a sum of exact's, taken over the pairs of strains and the edges that part them.
-use mathlib.Core.Bool.{Bool}
+use mathlib.Core.Bool.{Bool, _&&_}
 use mathlib.Core.List.{List}
 use Prim.Native.Nat.{ℕ}
 use lib.IntN.{ℤ, pos, _*ℤ_}
@@ -8,7 +8,7 @@ use lib.ListN.{length}
 use Rattle.exact.specs.Sum.{sum, pairs, ind}
 use Rattle.exact.specs.LeastSquares.{path, remainder, edgeSum, sumF, sumR, sumH}
 use Rattle.exact.specs.Nearest.{nearest}
-use Rattle.matrix.specs.Place.{distance}
+use Rattle.matrix.specs.Place.{measured, distance}
 use Rattle.trees.specs.Chain.{parentOf, partsPair}
 use Rattle.exact.specs.Table.{entryOf}
 
@@ -16,21 +16,25 @@ use Rattle.exact.specs.Table.{entryOf}
 abbrev pub partsOf : List ℕ → ℕ → ℕ × ℕ → Bool
 partsOf ps = partsPair (parentOf ps)
 
--- the split sum of edge v: the distances of the pairs that it parts
-abbrev pub splitSum : ℕ → List ℕ → List ℕ → ℕ → ℤ
-splitSum N ds ps v = pairs N (λ p. ind (partsOf ps v p) *ℤ distance ds p)
+-- which measured pairs it parts: these are the pairs that every sum runs over
+abbrev pub partsIn : List ℕ → List ℕ → ℕ → ℕ × ℕ → Bool
+partsIn ds ps v p = partsOf ps v p && measured ds p
 
--- p: the path of a pair
+-- the split sum of edge v: the distances of the measured pairs that it parts
+abbrev pub splitSum : ℕ → List ℕ → List ℕ → ℕ → ℤ
+splitSum N ds ps v = pairs N (λ p. ind (partsIn ds ps v p) *ℤ distance ds p)
+
+-- p: the path of a pair, measured or not
 abbrev pub pathOf : List ℕ → List ℤ → ℕ × ℕ → ℤ
 pathOf ps ns p = path (length ps) (partsOf ps) (entryOf ns) p
 
--- r: the remainder of a pair
+-- r: the remainder of a measured pair; 0 for another
 abbrev pub remainderOf : ℕ → List ℕ → List ℕ → ℕ → List ℤ → ℕ × ℕ → ℤ
-remainderOf N ds ps D ns p = remainder (length ps) (partsOf ps) (distance ds) (pos D) (entryOf ns) p
+remainderOf N ds ps D ns p = remainder (length ps) (partsIn ds ps) (distance ds) (pos D) (entryOf ns) p
 
 -- edge v's sum of remainders
 abbrev pub edgeSumOf : ℕ → List ℕ → List ℕ → ℕ → List ℤ → ℕ → ℤ
-edgeSumOf N ds ps D ns v = edgeSum (pairs N) (length ps) (partsOf ps) (distance ds) (pos D) (entryOf ns) v
+edgeSumOf N ds ps D ns v = edgeSum (pairs N) (length ps) (partsIn ds ps) (distance ds) (pos D) (entryOf ns) v
 
 -- the numerator of the tree length
 abbrev pub treeLength : List ℤ → ℤ
@@ -38,7 +42,7 @@ treeLength ns = sum (length ns) (entryOf ns)
 
 -- F
 abbrev pub fOf : ℕ → List ℕ → List ℕ → ℕ → List ℤ → ℤ
-fOf N ds ps D ns = sumF (pairs N) (length ps) (partsOf ps) (distance ds) (pos D) (entryOf ns)
+fOf N ds ps D ns = sumF (pairs N) (length ps) (partsIn ds ps) (distance ds) (pos D) (entryOf ns)
 
 -- m: the length of edge v in thousandths
 abbrev pub roundedOf : ℕ → List ℤ → ℕ → ℤ
@@ -46,8 +50,8 @@ roundedOf D ns v = nearest D (entryOf ns v)
 
 -- R
 abbrev pub rOf : ℕ → List ℕ → List ℕ → ℕ → List ℤ → ℤ
-rOf N ds ps D ns = sumR (pairs N) (length ps) (partsOf ps) (distance ds) (roundedOf D ns)
+rOf N ds ps D ns = sumR (pairs N) (length ps) (partsIn ds ps) (distance ds) (roundedOf D ns)
 
 -- H
-abbrev pub hOf : ℕ → List ℕ → ℤ
-hOf N ps = sumH (pairs N) (length ps) (partsOf ps)
+abbrev pub hOf : ℕ → List ℕ → List ℕ → ℤ
+hOf N ds ps = sumH (pairs N) (length ps) (partsIn ds ps)

@@ -6,12 +6,13 @@ use lib.Dec.{eqb}
 use lib.IntN.{ℤ, natAbs}
 use lib.ListN.{length}
 use Rattle.verdict.specs.Answer.{Answer, fault, test, atFirst, _orElse_}
-use Rattle.verdict.specs.declared.Place.the-variants.{EdgeSum}
+use Rattle.verdict.specs.declared.Place.the-variants.{Edge, EdgeSum}
+use Rattle.verdict.specs.Table.{some}
 use Rattle.matrix.specs.Place.{pairCount}
 use Rattle.matrix.specs.Tests.{matrixTests}
 use Rattle.trees.specs.Tests.{treeTests}
 use Rattle.lengths.specs.Tests.{lengthsTests}
-use Rattle.fit.specs.Quantities.{edgeSumOf}
+use Rattle.fit.specs.Quantities.{partsIn, edgeSumOf}
 
 -- an entry that is not zero
 abbrev pub notZero : (ℕ → ℤ) → ℕ → Bool
@@ -25,26 +26,37 @@ sumsTests N ds ps D ns = atFirst (length ps) (notZero (edgeSumOf N ds ps D ns)) 
 abbrev pub bufferOut : ℕ → ℕ → Bool
 bufferOut size due = not (eqb size due)
 
--- what a matrix and a tree are asked together: 4, 6 to 10
+-- what a matrix and a tree are asked, each by itself: 4, 6 to 10, 16
+abbrev pub shapeTests : ℕ → List ℕ → List ℕ → Answer
+shapeTests N ds ps = matrixTests N ds orElse treeTests N ps
+
+-- 26: the lowest edge that parts no measured pair
+abbrev pub unseen : ℕ → List ℕ → List ℕ → ℕ → Bool
+unseen N ds ps v = not (some N (λ j. some j (λ i. partsIn ds ps v (i, j))))
+
+abbrev pub seenTests : ℕ → List ℕ → List ℕ → Answer
+seenTests N ds ps = atFirst (length ps) (unseen N ds ps) (λ v. fault 26 (Edge v))
+
+-- what a matrix and a tree are asked together: 4, 6 to 10, 16, 26
 abbrev pub postedTests : ℕ → List ℕ → List ℕ → Answer
-postedTests N ds ps = matrixTests N ds orElse treeTests N ps
+postedTests N ds ps = shapeTests N ds ps orElse seenTests N ds ps
 
 -- what lengths are asked beside a matrix and a tree that pass: 11 to 14
 abbrev pub proposalTests : ℕ → List ℕ → List ℕ → ℕ → List ℤ → Answer
 proposalTests N ds ps D ns = lengthsTests (length ps) D ns orElse sumsTests N ds ps D ns
 
--- the verdict: 4, 6 to 14
+-- the verdict: 4, 6 to 14, 16, 26
 abbrev pub judgeTests : ℕ → List ℕ → List ℕ → ℕ → List ℤ → Answer
 judgeTests N ds ps D ns = postedTests N ds ps orElse proposalTests N ds ps D ns
 
--- the report: 4, 6 to 15
+-- the report: 4, 6 to 16, 26
 abbrev pub reportTests : ℕ → List ℕ → List ℕ → ℕ → List ℤ → ℕ → Answer
 reportTests N ds ps D ns size = judgeTests N ds ps D ns orElse test 15 (bufferOut size (length ps))
 
--- split sums: 4, 6 to 10, 15
+-- split sums: 4, 6 to 10, 15, 16, 26
 abbrev pub splitTests : ℕ → List ℕ → List ℕ → ℕ → Answer
 splitTests N ds ps size = postedTests N ds ps orElse test 15 (bufferOut size (length ps))
 
--- path lengths: 6, 8 to 13, 15
+-- path lengths: 6, 8 to 13, 15, 16
 abbrev pub pathsTests : ℕ → List ℕ → ℕ → List ℤ → ℕ → Answer
 pathsTests N ps D ns size = treeTests N ps orElse lengthsTests (length ps) D ns orElse test 15 (bufferOut size (pairCount N))

@@ -65,7 +65,7 @@ pub fn judge_proposal(
     check_sums(n as usize, distances, parents, d, numerators)
 }
 
-// The verdict: 4, 6 to 14, the first that applies.
+// The verdict: 4, 6 to 14, 16, 26, the first that applies.
 pub fn judge(n: u32, distances: &[u16], parents: &[u8], d: u32, numerators: &[i64]) -> Verdict
     ensures { λ r. ⌜ JudgeAnswer n (now (distances .entry)) (now (parents .entry)) d (now (numerators .entry)) r ⌝ }
 {

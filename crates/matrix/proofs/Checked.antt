@@ -9,7 +9,7 @@ use Rattle.verdict.specs.Answer.{pass, test, _orElse_}
 use Rattle.verdict.proofs.Answers.{orElse-pass, test-pass, or-none}
 use Rattle.verdict.proofs.Table.{some-no, some-none}
 use Rattle.matrix.specs.Limits.{minStrains, maxStrains, maxDistance}
-use Rattle.matrix.specs.Place.{pairCount}
+use Rattle.matrix.specs.Place.{pairCount, known}
 use Rattle.matrix.specs.Tests.{matrixTests, countOut, strainsOut, distanceOut}
 use Rattle.matrix.specs.Proper.{Proper}
 use Rattle.matrix.proofs.Answered.{is-0}
@@ -26,5 +26,5 @@ pub →proper : (N : ℕ) (ds : List ℕ) → matrixTests N ds ≡ pass → Prop
       whole = eqb-true (length ds) (pairCount N) (not-false (eqb (length ds) (pairCount N)) (test-pass 4 (countOut N ds) e4));
       three = ltb-false N minStrains low;
       few = ltb-false maxStrains N high;
-      near = λ k h. ltb-false maxDistance (getD ds k 0) (some-none (length ds) (λ i. ltb maxDistance (getD ds i 0)) (test-pass 7 (distanceOut ds) e7) k h);
+      near = λ k h. ltb-false maxDistance (known (getD ds k 0)) (some-none (length ds) (λ i. ltb maxDistance (known (getD ds i 0))) (test-pass 7 (distanceOut ds) e7) k h);
     }

@@ -16,7 +16,7 @@ use Rattle.exact.specs.Table.{table}
 use Rattle.exact.proofs.Decide.{by-cases}
 use Rattle.exact.proofs.Fill.{getD-table}
 use Rattle.matrix.specs.Limits.{maxStrains, maxPairs}
-use Rattle.matrix.specs.Place.{pairCount, place, pairPlace, behind, pairAt, distance, rowStart, rowPlace, fromRows}
+use Rattle.matrix.specs.Place.{pairCount, place, pairPlace, behind, pairAt, known, distance, rowStart, rowPlace, fromRows}
 
 row-closed : (N i : ℕ) → i ≤ N → 2 * rowStart N i + i * (i + 1) ≡ 2 * (i * N)
 unfolding rowStart
@@ -173,11 +173,11 @@ place-onto N k h = by-cases (decLt (pairAt k .1) N) (λ l. l) (λ l. absurd (ome
 
 -- ---- a strain appends: behind the distances of N strains stand those of strain N with each before it, and the others stay where they were
 pub strain-keeps : (N : ℕ) (ds more : List ℕ) → length ds ≡ pairCount N → (i j : ℕ) → i < j → j < N → distance (ds ++ more) (i, j) ≡ distance ds (i, j)
-strain-keeps N ds more e i j h k = ap pos (List·getD-append ds more 0 (place i j) (omega (arith, place-bound N i j h k)))
+strain-keeps N ds more e i j h k = ap (λ (x : ℕ). pos (known x)) (List·getD-append ds more 0 (place i j) (omega (arith, place-bound N i j h k)))
 
-pub strain-appends : (N : ℕ) (ds more : List ℕ) → length ds ≡ pairCount N → (i : ℕ) → distance (ds ++ more) (i, N) ≡ pos (getD more i 0)
+pub strain-appends : (N : ℕ) (ds more : List ℕ) → length ds ≡ pairCount N → (i : ℕ) → distance (ds ++ more) (i, N) ≡ pos (known (getD more i 0))
 unfolding place
-strain-appends N ds more e i = ap (λ (k : ℕ). pos (getD (ds ++ more) (k + i) 0)) (sym e) ∙ ap pos (getD-append-add ds more i 0)
+strain-appends N ds more e i = ap (λ (k : ℕ). pos (known (getD (ds ++ more) (k + i) 0))) (sym e) ∙ ap (λ (x : ℕ). pos (known x)) (getD-append-add ds more i 0)
 
 -- ---- the two layouts answer alike: a matrix made of rows has each pair's entry of the rows at the pair's place
 pub from-rows : (N : ℕ) (rows : ℕ → ℕ) (i j : ℕ) → i < j → fromRows N rows (place i j) ≡ rows (rowPlace N i j)

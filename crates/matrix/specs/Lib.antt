@@ -3,3 +3,4 @@ pub mod Place
 pub mod Tests
 pub mod Kept
 pub mod Proper
+pub mod Surveys

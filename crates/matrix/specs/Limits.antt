@@ -12,6 +12,10 @@ maxStrains = 64
 abbrev pub maxDistance : ℕ
 maxDistance = 50000
 
+-- a pair that was not measured has this in place of a distance
+abbrev pub missing : ℕ
+missing = 65535
+
 -- no matrix has more pairs: 64·63/2
 abbrev pub maxPairs : ℕ
 maxPairs = 2016

@@ -1,10 +1,13 @@
 -- Where a pair of strains stands: in a matrix, and in the rows of a sheet or of a path buffer. Nothing else knows either.
-use mathlib.Core.Bool.{cond}
+use mathlib.Core.Path.{_≡_}
+use mathlib.Core.Bool.{Bool, false, cond, not}
 use mathlib.Core.List.{List}
 use Prim.Native.Nat.{ℕ, zero, suc, _+_, _-_, _*_, _/_}
-use lib.Dec.{ltb}
+use lib.Dec.{eqb, ltb}
 use lib.IntN.{ℤ, pos}
-use lib.ListN.{getD}
+use lib.ListN.{length, getD}
+use Rattle.verdict.specs.Table.{some}
+use Rattle.matrix.specs.Limits.{missing}
 
 -- how many pairs there are
 abbrev pub pairCount : ℕ → ℕ
@@ -27,13 +30,34 @@ unfoldable pub pairAt : ℕ → ℕ × ℕ
 pairAt zero = (0, 1)
 pairAt (suc k) = behind (pairAt k)
 
--- d: the distance of a pair
-abbrev pub distance : List ℕ → ℕ × ℕ → ℤ
-distance ds p = pos (getD ds (place (p .0) (p .1)) 0)
+-- ---- what stands there: a distance, or the mark of a pair that was not measured
+abbrev pub isMeasured : ℕ → Bool
+isMeasured x = not (eqb x missing)
 
--- the distance of two strains, whichever is named first
+-- the distance, and 0 for a pair that was not measured: no sum runs over it
+unfoldable pub known : ℕ → ℕ
+known x = cond (isMeasured x) x 0
+
+-- of a pair: whether it is measured, and d
+abbrev pub measured : List ℕ → ℕ × ℕ → Bool
+measured ds p = isMeasured (getD ds (place (p .0) (p .1)) 0)
+
+abbrev pub distance : List ℕ → ℕ × ℕ → ℤ
+distance ds p = pos (known (getD ds (place (p .0) (p .1)) 0))
+
+-- of two strains, whichever is named first
+abbrev pub measuredOf : List ℕ → ℕ → ℕ → Bool
+measuredOf ds i j = isMeasured (getD ds (pairPlace i j) 0)
+
 abbrev pub distanceOf : List ℕ → ℕ → ℕ → ℤ
-distanceOf ds i j = pos (getD ds (pairPlace i j) 0)
+distanceOf ds i j = pos (known (getD ds (pairPlace i j) 0))
+
+-- some pair is not measured; a matrix of which none is missing is complete
+abbrev pub someMissing : List ℕ → Bool
+someMissing ds = some (length ds) (λ k. not (isMeasured (getD ds k 0)))
+
+abbrev pub Complete : List ℕ → Type 0
+Complete ds = someMissing ds ≡ false
 
 -- ---- in the rows of N strains: 01, 02, .., 0(N-1), 12, 13, ..
 -- where the pairs of strain i with a later one begin: behind those of the strains before it

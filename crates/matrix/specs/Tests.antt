@@ -7,7 +7,7 @@ use lib.ListN.{length, getD}
 use Rattle.verdict.specs.Answer.{Answer, test, _orElse_}
 use Rattle.verdict.specs.Table.{some}
 use Rattle.matrix.specs.Limits.{minStrains, maxStrains, maxDistance}
-use Rattle.matrix.specs.Place.{pairCount}
+use Rattle.matrix.specs.Place.{pairCount, known}
 
 -- 4: entries not N(N-1)/2
 abbrev pub countOut : ℕ → List ℕ → Bool
@@ -17,9 +17,9 @@ countOut N ds = not (eqb (length ds) (pairCount N))
 abbrev pub strainsOut : ℕ → Bool
 strainsOut N = ltb N minStrains || ltb maxStrains N
 
--- 7: a distance above 50,000
+-- 7: a distance above 50,000; the mark of a missing pair is none
 abbrev pub distanceOut : List ℕ → Bool
-distanceOut ds = some (length ds) (λ k. ltb maxDistance (getD ds k 0))
+distanceOut ds = some (length ds) (λ k. ltb maxDistance (known (getD ds k 0)))
 
 -- the answer that a matrix gets
 abbrev pub matrixTests : ℕ → List ℕ → Answer

@@ -4,15 +4,17 @@ use verdict::Reason;
 use verdict::Refusal;
 use verdict::Verdict;
 ghost use mathlib.Core.Path.{_≡_};
+ghost use mathlib.Core.Bool.{false};
 ghost use mathlib.Core.Logic.{_≢_};
 ghost use Prim.Native.Nat.{_+_, _≤_, _<_};
 ghost use lib.ListN.{length, getD};
 ghost use Rattle.exact.specs.Table.{table};
-ghost use Rattle.verdict.specs.Answer.{answerOf};
-ghost use Rattle.matrix.specs.Limits.{minStrains, maxStrains, maxDistance, maxPairs};
+ghost use Rattle.verdict.specs.Answer.{fault, answerOf, reasonNumber};
+ghost use Rattle.matrix.specs.Limits.{minStrains, maxStrains, maxDistance, missing, maxPairs};
 ghost use Rattle.matrix.specs.Place.{pairCount, place, pairPlace, rowPlace};
-ghost use Rattle.matrix.specs.Tests.{distanceOut, matrixTests};
+ghost use Rattle.matrix.specs.Tests.{matrixTests};
 ghost use Rattle.matrix.specs.Kept.{MatrixAnswer};
+ghost use Rattle.matrix.specs.Surveys.{Looked, Surveyed};
 
 // The distances between n strains, in the order 01, 02, 12, 03, 13, 23, .., then zeros: a strain appends.
 pub struct Matrix {
@@ -32,6 +34,8 @@ impl Matrix {
     pub const MAX_STRAINS: usize = 64;
 
     pub const MAX_DISTANCE: u16 = 50_000;
+    // What stands in place of a distance that was not measured.
+    pub const MISSING: u16 = 65_535;
     // As many pairs as the most strains have.
     pub const MAX_PAIRS: usize = Matrix::MAX_STRAINS * (Matrix::MAX_STRAINS - 1) / 2;
 
@@ -63,16 +67,18 @@ pub struct Limits {
     pub fewest: usize,
     pub most: usize,
     pub farthest: u16,
+    pub missing: u16,
     pub pairs: usize,
 }
 
 pub fn stated_limits() -> Limits
-    ensures { λ r. ⌜ (r .fewest ≡ minStrains) × (r .most ≡ maxStrains) × (r .farthest ≡ maxDistance) × (r .pairs ≡ maxPairs) ⌝ }
+    ensures { λ r. ⌜ (r .fewest ≡ minStrains) × (r .most ≡ maxStrains) × (r .farthest ≡ maxDistance) × (r .missing ≡ missing) × (r .pairs ≡ maxPairs) ⌝ }
 {
     Limits {
         fewest: Matrix::MIN_STRAINS,
         most: Matrix::MAX_STRAINS,
         farthest: Matrix::MAX_DISTANCE,
+        missing: Matrix::MISSING,
         pairs: Matrix::MAX_PAIRS,
     }
 }
@@ -123,50 +129,84 @@ pub fn row_below(n: usize, i: usize, j: usize, row: usize) -> usize
     row + (n - i - 2)
 }
 
-// Some distance is above its limit.
-fn some_distance_out(distances: &[u16]) -> bool
-    ensures { λ r. ⌜ r ≡ distanceOut (now (distances .entry)) ⌝ }
+// What a look at every distance shows: whether one is above its limit, and where none is, whether one is missing.
+struct Seen {
+    out: bool,
+    missing: bool,
+}
+
+fn look(distances: &[u16]) -> Seen
+    ensures { λ r. ⌜ Looked (now (distances .entry)) (r .out) (r .missing) ⌝ }
 {
+    let mut missing = false;
     let mut k = 0;
     while k < distances.len() {
-        if distances[k] > Matrix::MAX_DISTANCE {
-            return true;
+        let far = distances[k];
+        if far > Matrix::MAX_DISTANCE {
+            if far != Matrix::MISSING {
+                return Seen {
+                    out: true,
+                    missing: false,
+                };
+            }
+            missing = true;
         }
         k += 1;
     }
-    false
+    Seen {
+        out: false,
+        missing,
+    }
+}
+
+// The answer to a matrix, and where it passes whether some pair is missing.
+pub struct Survey {
+    pub verdict: Verdict,
+    pub missing: bool,
+}
+
+// A refusal, which says nothing of pairs that are missing.
+fn unread(reason: Reason) -> Survey
+    ensures { λ r. ⌜ (answerOf (r .verdict) ≡ fault (reasonNumber reason) Place.Nowhere) × (r .missing ≡ false) ⌝ }
+{
+    Survey {
+        verdict: Verdict::Refused(Refusal {
+            reason,
+            place: Place::Nowhere,
+        }),
+        missing: false,
+    }
 }
 
 // 4, 6, 7, the first that applies, for any n and any slice.
-pub fn check_matrix(n: u32, distances: &[u16]) -> Verdict
-    ensures { λ r. ⌜ answerOf r ≡ matrixTests n (now (distances .entry)) ⌝ }
+pub fn survey_matrix(n: u32, distances: &[u16]) -> Survey
+    ensures { λ r. ⌜ Surveyed n (now (distances .entry)) r ⌝ }
 {
     if distances.len() as u64 != pair_count(n) {
-        return Verdict::Refused(Refusal {
-            reason: Reason::WrongCounts,
-            place: Place::Nowhere,
-        });
+        return unread(Reason::WrongCounts);
     }
     let strains = n as usize;
     if strains < Matrix::MIN_STRAINS {
-        return Verdict::Refused(Refusal {
-            reason: Reason::Strains,
-            place: Place::Nowhere,
-        });
+        return unread(Reason::Strains);
     }
     if strains > Matrix::MAX_STRAINS {
-        return Verdict::Refused(Refusal {
-            reason: Reason::Strains,
-            place: Place::Nowhere,
-        });
+        return unread(Reason::Strains);
     }
-    if some_distance_out(distances) {
-        return Verdict::Refused(Refusal {
-            reason: Reason::Distance,
-            place: Place::Nowhere,
-        });
+    let found = look(distances);
+    if found.out {
+        return unread(Reason::Distance);
     }
-    Verdict::Accepted
+    Survey {
+        verdict: Verdict::Accepted,
+        missing: found.missing,
+    }
+}
+
+// The answer alone.
+pub fn check_matrix(n: u32, distances: &[u16]) -> Verdict
+    ensures { λ r. ⌜ answerOf r ≡ matrixTests n (now (distances .entry)) ⌝ }
+{
+    survey_matrix(n, distances).verdict
 }
 
 fn zeros() -> [u16; Matrix::MAX_PAIRS]

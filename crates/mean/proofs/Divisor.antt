@@ -1,13 +1,15 @@
--- The mean square's divisor on the trees that are allowed: with three strains there is none, with four or more it is D times a
--- number of 1 or more.
+-- The mean square's divisor on the trees that are allowed: where a pair is missing there is none; of a complete matrix of three strains
+-- there is none, and of four or more it is D times a number of 1 or more.
 use mathlib.Core.Path.{_≡_, refl, sym, _∙_, ap, subst}
+use mathlib.Core.Bool.{Bool, true, false, cond}
+use mathlib.Core.List.{List}
 use Prim.Native.Nat.{ℕ, zero, suc, _+_, _-_, _*_, _/_, _≤_, _<_}
 use native.Mathlib.Decide.{decLt}
 use native.Mathlib.Nat.{le-mul-of-pos-right}
 use native.Mathlib.Omega.{arith}
 use lib.IntN.{ℤ, pos}
 use Rattle.exact.proofs.Decide.{by-cases}
-use Rattle.matrix.specs.Place.{pairCount}
+use Rattle.matrix.specs.Place.{pairCount, someMissing, Complete}
 use Rattle.trees.specs.Allowed.{Allowed}
 use Rattle.mean.specs.declared.Mean.{Mean}
 use Rattle.mean.specs.declared.Mean.the-variants.{None, Over}
@@ -25,9 +27,19 @@ apart z e = subst over e tt
     over None = ⊥
     over (Over z) = Unit
 
-module _ (N K : ℕ) (par : ℕ → ℕ) (a : Allowed N K par) (D : ℕ) where
-  pub three-none : N ≡ 3 → meanOf N K D ≡ None
-  three-none e = let nothing : pairCount N - K ≡ 0 = subst (λ (n : ℕ). pairCount n - K ≡ 0) (sym e) (omega (arith, a .edges)) in ap (times D) nothing
+pub missing-none : (N : ℕ) (ds : List ℕ) (K D : ℕ) → someMissing ds ≡ true → meanOf N ds K D ≡ None
+missing-none N ds K D e = rw e
+
+pub complete-times : (N : ℕ) (ds : List ℕ) (K D : ℕ) → Complete ds → meanOf N ds K D ≡ times D (pairCount N - K)
+complete-times N ds K D e = rw e
+
+module _ (N K : ℕ) (par : ℕ → ℕ) (a : Allowed N K par) (ds : List ℕ) (D : ℕ) where
+  pub three-none : N ≡ 3 → meanOf N ds K D ≡ None
+  three-none e = go (someMissing ds)
+    where
+      go : (b : Bool) → cond b None (times D (pairCount N - K)) ≡ None
+      go true = refl
+      go false = let nothing : pairCount N - K ≡ 0 = subst (λ (n : ℕ). pairCount n - K ≡ 0) (sym e) (omega (arith, a .edges)) in ap (times D) nothing
 
   -- four strains or more have more pairs than a tree has edges
   some-left : 4 ≤ N → 1 ≤ pairCount N - K
@@ -36,9 +48,11 @@ module _ (N K : ℕ) (par : ℕ → ℕ) (a : Allowed N K par) (D : ℕ) where
       go : (m : ℕ) → N ≡ 4 + m → K ≤ 5 + 2 * m → 1 ≤ pairCount N - K
       go m e l = subst (λ (n : ℕ). 1 ≤ pairCount n - K) (sym e) (omega arith)
 
-  pub four-over : 4 ≤ N → (meanOf N K D ≡ Over (pos (D * (pairCount N - K)))) × (D ≤ D * (pairCount N - K))
-  four-over h = (times-some D (pairCount N - K) (some-left h), le-mul-of-pos-right {m = pairCount N - K} D (some-left h))
+  -- of a complete matrix
+  module _ (all : Complete ds) where
+    pub four-over : 4 ≤ N → (meanOf N ds K D ≡ Over (pos (D * (pairCount N - K)))) × (D ≤ D * (pairCount N - K))
+    four-over h = (complete-times N ds K D all ∙ times-some D (pairCount N - K) (some-left h), le-mul-of-pos-right {m = pairCount N - K} D (some-left h))
 
-  -- so there is none exactly for three
-  pub none-three : meanOf N K D ≡ None → N ≡ 3
-  none-three e = by-cases (decLt 3 N) (λ l. absurd (apart _ (sym (four-over l .0) ∙ e))) (λ n. omega (arith, a .three))
+    -- so there is none exactly for three
+    pub none-three : meanOf N ds K D ≡ None → N ≡ 3
+    none-three e = by-cases (decLt 3 N) (λ l. absurd (apart _ (sym (four-over l .0) ∙ e))) (λ n. omega (arith, a .three))

@@ -1,7 +1,7 @@
 -- Strains that meet at a vertex: the strains of a mask, their ways up to it, the remainder of a pair where its path turns, and what
 -- it gives to the shares.
 use mathlib.Core.Path.{_≡_}
-use mathlib.Core.Bool.{true}
+use mathlib.Core.Bool.{true, cond}
 use mathlib.Core.List.{List}
 use mathlib.Core.Logic.{_≢_}
 use Prim.Native.Nat.{ℕ, suc, _+_, _*_, _≤_, _<_}
@@ -11,7 +11,7 @@ use lib.IntN.{ℤ, pos, natAbs, _+ℤ_, _-ℤ_, _*ℤ_}
 use lib.ListN.{length, getD}
 use Rattle.exact.specs.Sum.{sum, ind}
 use Rattle.matrix.specs.Limits.{maxStrains, maxDistance}
-use Rattle.matrix.specs.Place.{pairCount, distanceOf}
+use Rattle.matrix.specs.Place.{pairCount, known, measuredOf, distanceOf}
 use Rattle.lengths.specs.Limits.{maxDenominator, maxNumerator}
 use Rattle.trees.specs.Limits.{maxEdges, maxVertices}
 use Rattle.trees.specs.Chain.{below}
@@ -51,16 +51,17 @@ pub record Carried (here : ℕ) (x : ℤ) (old new : List ℤ) : Type 0 where
   pub entries : (i : ℕ) → entryOf new i ≡ entryOf old i +ℤ ind (bitAt here i) *ℤ x
 
 -- ---- pairs
--- D times the distance of a pair, less the ways of its two strains: its remainder, where the ways are those up to where its path turns
+-- of a measured pair D times its distance, less the ways of its two strains: its remainder, where the ways are those up to where its path
+-- turns; 0 for a pair that is missing
 unfoldable pub remainderByWays : ℕ → List ℕ → List ℤ → ℕ → ℕ → ℤ
-remainderByWays D ds ways i j = pos D *ℤ distanceOf ds i j -ℤ entryOf ways i -ℤ entryOf ways j
+remainderByWays D ds ways i j = cond (measuredOf ds i j) (pos D *ℤ distanceOf ds i j -ℤ entryOf ways i -ℤ entryOf ways j) (pos 0)
 
 -- what this needs of the tables
 pub record Carrying (N D : ℕ) (ds : List ℕ) (ways : List ℤ) : Type 0 where
   pub few : N ≤ maxStrains
   pub room : pairCount N ≤ length ds
   pub most : D ≤ maxDenominator
-  pub near : (k : ℕ) → getD ds k 0 ≤ maxDistance
+  pub near : (k : ℕ) → known (getD ds k 0) ≤ maxDistance
   pub low : (i : ℕ) → natAbs (entryOf ways i) ≤ farthestWay
 
 -- strain j is none of the mask's, and what is worked from their ways is a remainder's size

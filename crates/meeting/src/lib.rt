@@ -87,7 +87,8 @@ pub fn carry(ways: &mut [i64; Matrix::MAX_STRAINS], here: u64, x: i64)
     }
 }
 
-// The remainder of a pair whose strains have come to where its path turns: d times its distance, less their two ways.
+// The remainder of a measured pair whose strains have come to where its path turns: d times its distance, less their two
+// ways; 0 for a pair that is missing.
 fn remainder_by_ways(
     n: usize,
     d: u32,
@@ -100,8 +101,11 @@ fn remainder_by_ways(
     requires { ⌜ (i < n) × (j < n) × (i ≢ j) ⌝ }
     ensures { λ r. ⌜ r ≡ remainderByWays d (now (distances .entry)) (now (ways .entry)) i j ⌝ }
 {
-    let far = distances[matrix::pair_place(i, j)] as i64;
-    d as i64 * far - ways[i] - ways[j]
+    let far = distances[matrix::pair_place(i, j)];
+    if far == Matrix::MISSING {
+        return 0;
+    }
+    d as i64 * far as i64 - ways[i] - ways[j]
 }
 
 // The remainders of strain j with each strain of a mask, each put at that strain; and all of them together.

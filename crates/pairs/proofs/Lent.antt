@@ -2,18 +2,15 @@
 use mathlib.Core.Path.{_≡_, _∙_, ap}
 use mathlib.Core.Bool.{cond}
 use mathlib.Core.List.{List}
-use mathlib.Core.Logic.{_⊎_, inl, inr}
 use Prim.Native.Nat.{ℕ, _≤_, _<_}
 use native.Mathlib.Omega.{arith}
 use borrow.Author.Tests.{le-leb}
 use lib.Dec.{leb}
 use lib.IntN.{ℤ}
-use lib.ListN.{length, getD, List·getD-eq-default}
+use lib.ListN.{length, getD}
 use Rattle.exact.specs.Table.{table}
 use Rattle.exact.proofs.Fill.{getD-table}
-use Rattle.exact.proofs.Sign.{lt-or-ge}
-use Rattle.matrix.specs.Limits.{maxDistance}
-use Rattle.matrix.specs.Proper as matrix
+use Rattle.matrix.proofs.Completes.{known-near}
 use Rattle.trees.specs.Limits.{maxEdges, maxVertices}
 use Rattle.trees.specs.Chain.{parentOf}
 use Rattle.trees.specs.Allowed.{Allowed}
@@ -26,14 +23,6 @@ use Rattle.pairs.specs.Ready.{Ready, InRange}
 -- an allowed tree has few enough edges
 pub few-edges : {N K : ℕ} {par : ℕ → ℕ} → Allowed N K par → K ≤ maxEdges
 few-edges a = omega (arith, a .few, a .most)
-
--- no distance is above 50,000; where the list ends, 0 is read
-pub near : {N : ℕ} {ds : List ℕ} → matrix.Proper N ds → (k : ℕ) → getD ds k 0 ≤ maxDistance
-near {N} {ds} m k = go (lt-or-ge k (length ds))
-  where
-    go : (k < length ds) ⊎ (length ds ≤ k) → getD ds k 0 ≤ maxDistance
-    go (inl l) = m .near k l
-    go (inr l) = omega (arith, List·getD-eq-default ds 0 l)
 
 pub small : {K D : ℕ} {ns : List ℤ} → lengths.Proper K D ns → Small K ns
 small l = record { room = omega (arith, l .whole); near = λ v h. omega (arith, l .near v (omega (arith, l .whole))) }
@@ -58,6 +47,6 @@ module _ (N : ℕ) (ps cs : List ℕ) (e : cs ≡ table maxVertices (λ v. cond 
     one = l .one;
     most = l .most;
     room = omega (arith, p .matrix .whole);
-    near = near (p .matrix);
+    near = known-near (p .matrix);
     small = small l;
   }

@@ -1,4 +1,5 @@
 // Pairs of strains: the order in which loops visit them, and the remainder of one.
+use matrix::Matrix;
 use tree::Tree;
 ghost use mathlib.Core.Path.{_≡_};
 ghost use Prim.Native.Nat.{_<_};
@@ -24,7 +25,7 @@ pub fn next_pair(i: usize, j: usize) -> Pair
     }
 }
 
-// The remainder of a pair: d times its distance, less its path.
+// The remainder of a measured pair: d times its distance, less its path; 0 for one that is missing.
 pub fn remainder(
     n: usize,
     edges: usize,
@@ -38,8 +39,11 @@ pub fn remainder(
 ) -> i64
     requires { ⌜ Ready n edges d (now distances) (now parents) (now masks) (now numerators) ⌝ }
     requires { ⌜ (i < j) × (j < n) ⌝ }
-    ensures { λ r. ⌜ r ≡ remainderAt n edges d (now (distances .entry)) (now (parents .entry)) (now (numerators .entry)) (i, j) ⌝ }
+    ensures { λ r. ⌜ r ≡ remainderAt edges d (now (distances .entry)) (now (parents .entry)) (now (numerators .entry)) (i, j) ⌝ }
 {
-    let far = distances[matrix::place(i, j)] as i64;
-    d as i64 * far - paths::path(n, edges, parents, masks, numerators, i, j)
+    let far = distances[matrix::place(i, j)];
+    if far == Matrix::MISSING {
+        return 0;
+    }
+    d as i64 * far as i64 - paths::path(n, edges, parents, masks, numerators, i, j)
 }

@@ -51,7 +51,7 @@ module _ (s : List ℕ) (x : SheetFit) (a : SheetReport s x) where
         ∙ fit-cong (strainsOf s) (length (parentsOf s)) (denominatorOf s) (entryOf (x .numerators)) (entryOf (numeratorsOf s)) (entryOf (x .rounded)) (roundedOf (denominatorOf s) (numeratorsOf s)) (x .report .length) (x .report .f) (x .report .r) (x .report .h) (x .report .mean) (fit .numerators .entries) (fit .rounded .entries)
         ∙ ap₂ (λ (t F : ℤ). fitText (strainsOf s) (length (parentsOf s)) (denominatorOf s) (entryOf (numeratorsOf s)) (roundedOf (denominatorOf s) (numeratorsOf s)) t F (x .report .r) (x .report .h) (x .report .mean)) (p .total) (p .f)
         ∙ ap₂ (λ (R H : ℤ). fitText (strainsOf s) (length (parentsOf s)) (denominatorOf s) (entryOf (numeratorsOf s)) (roundedOf (denominatorOf s) (numeratorsOf s)) (treeLength (numeratorsOf s)) (fOf (strainsOf s) (distancesOf s) (parentsOf s) (denominatorOf s) (numeratorsOf s)) R H (x .report .mean)) (p .r) (p .h)
-        ∙ ap (λ (m : Mean). fitText (strainsOf s) (length (parentsOf s)) (denominatorOf s) (entryOf (numeratorsOf s)) (roundedOf (denominatorOf s) (numeratorsOf s)) (treeLength (numeratorsOf s)) (fOf (strainsOf s) (distancesOf s) (parentsOf s) (denominatorOf s) (numeratorsOf s)) (rOf (strainsOf s) (distancesOf s) (parentsOf s) (denominatorOf s) (numeratorsOf s)) (hOf (strainsOf s) (parentsOf s)) m) (p .mean)
+        ∙ ap (λ (m : Mean). fitText (strainsOf s) (length (parentsOf s)) (denominatorOf s) (entryOf (numeratorsOf s)) (roundedOf (denominatorOf s) (numeratorsOf s)) (treeLength (numeratorsOf s)) (fOf (strainsOf s) (distancesOf s) (parentsOf s) (denominatorOf s) (numeratorsOf s)) (rOf (strainsOf s) (distancesOf s) (parentsOf s) (denominatorOf s) (numeratorsOf s)) (hOf (strainsOf s) (distancesOf s) (parentsOf s)) m) (p .mean)
 
     edges-few : length (parentsOf s) ≤ maxEdges
     edges-few = fit .reported .stands .lengths .few

@@ -35,8 +35,8 @@ fitOfSheet s =
     fitText (strainsOf s) (length (parentsOf s)) (denominatorOf s) (entryOf (numeratorsOf s)) (roundedOf (denominatorOf s) (numeratorsOf s)) (treeLength (numeratorsOf s))
     (fOf (strainsOf s) (distancesOf s) (parentsOf s) (denominatorOf s) (numeratorsOf s))
     (rOf (strainsOf s) (distancesOf s) (parentsOf s) (denominatorOf s) (numeratorsOf s))
-    (hOf (strainsOf s) (parentsOf s))
-    (meanOf (strainsOf s) (length (parentsOf s)) (denominatorOf s))
+    (hOf (strainsOf s) (distancesOf s) (parentsOf s))
+    (meanOf (strainsOf s) (distancesOf s) (length (parentsOf s)) (denominatorOf s))
 
 -- the print of a sheet
 abbrev pub sheetText : List ℕ → List ℕ
@@ -56,7 +56,7 @@ fitOfUnfitted s =
     (bottomOf (strainsOf s) (distancesOf s) (parentsOf s))
     (thousandthOf (strainsOf s) (distancesOf s) (parentsOf s))
     (squareOf (strainsOf s) (distancesOf s) (parentsOf s))
-    (hOf (strainsOf s) (parentsOf s))
+    (hOf (strainsOf s) (distancesOf s) (parentsOf s))
 
 -- the print of a sheet without lengths
 abbrev pub unfittedText : List ℕ → List ℕ

@@ -1,6 +1,8 @@
 -- The reader's answer by the answers to the form, to matrix and tree, and to the count of the lengths.
 use mathlib.Core.Path.{_≡_, sym, ap, _∙_}
+use mathlib.Core.Bool.{Bool, true, false, cond}
 use mathlib.Core.List.{List}
+use lib.Dec.{ltb}
 use Prim.Native.Nat.{ℕ, _-_, _<_, _≤_}
 use native.Mathlib.Omega.{arith}
 use borrow.Author.Tests.{lt-ltb, le-ltb, eq-eqb}
@@ -17,28 +19,39 @@ use Rattle.matrix.specs.Limits.{minStrains, maxStrains}
 use Rattle.matrix.specs.Place.{pairCount}
 use Rattle.matrix.specs.Tests.{matrixTests}
 use Rattle.trees.specs.Limits.{maxEdges}
-use Rattle.fit.specs.Tests.{postedTests}
-use Rattle.fit.specs.Stands.{Posted}
-use Rattle.fit.proofs.Exactly.{→posted}
+use Rattle.fit.specs.Tests.{shapeTests, seenTests, postedTests}
+use Rattle.fit.specs.Stands.{Shaped, Posted}
+use Rattle.fit.proofs.Exactly.{→shaped, →posted}
 use Rattle.records.specs.Form.{formTests}
 use Rattle.reading.specs.declared.Sheet.{Sheet}
 use Rattle.reading.specs.Holds.{strainsOf, distancesOf, verticesOf, parentsOf}
-use Rattle.reading.specs.Tests.{strainsDiffer, edgesDiffer, pairTests, readTests}
+use Rattle.reading.specs.Tests.{strainsDiffer, edgesDiffer, bothTests, pairTests, readTests}
 use Rattle.reading.specs.Reads.{Held, Blank, SheetAnswer}
 
 -- ---- matrix and tree that pass
-module _ (s : List ℕ) (z : pairTests s ≡ pass) where
-  pub pair-posted : Posted (strainsOf s) (distancesOf s) (parentsOf s)
-  pair-posted =
-      let N = strainsOf s in
-      let ds = distancesOf s in
-      let (_, r) = orElse-pass (matrixTests N ds) (test 8 (strainsDiffer s) orElse postedTests N ds (parentsOf s)) z in
-      →posted N ds (parentsOf s) (orElse-pass (test 8 (strainsDiffer s)) (postedTests N ds (parentsOf s)) r .1)
+both-pass : (count : ℕ) (s : List ℕ) → pairTests count s ≡ pass → bothTests count (strainsOf s) (distancesOf s) (parentsOf s) ≡ pass
+both-pass count s z =
+    let N = strainsOf s in
+    let ds = distancesOf s in
+    let (_, r) = orElse-pass (matrixTests N ds) (test 8 (strainsDiffer s) orElse bothTests count N ds (parentsOf s)) z in
+    orElse-pass (test 8 (strainsDiffer s)) (bothTests count N ds (parentsOf s)) r .1
+
+-- where lengths follow, also together
+pub pair-posted : (s : List ℕ) → pairTests 3 s ≡ pass → Posted (strainsOf s) (distancesOf s) (parentsOf s)
+pair-posted s z = →posted (strainsOf s) (distancesOf s) (parentsOf s) (both-pass 3 s z)
+
+module _ (count : ℕ) (s : List ℕ) (z : pairTests count s ≡ pass) where
+  pub pair-shaped : Shaped (strainsOf s) (distancesOf s) (parentsOf s)
+  pair-shaped = go (ltb 2 count) (both-pass count s z)
+    where
+      go : (b : Bool) → cond b (postedTests (strainsOf s) (distancesOf s) (parentsOf s)) (shapeTests (strainsOf s) (distancesOf s) (parentsOf s)) ≡ pass → Shaped (strainsOf s) (distancesOf s) (parentsOf s)
+      go true e = →shaped (strainsOf s) (distancesOf s) (parentsOf s) (orElse-pass (shapeTests (strainsOf s) (distancesOf s) (parentsOf s)) (seenTests (strainsOf s) (distancesOf s) (parentsOf s)) e .0)
+      go false e = →shaped (strainsOf s) (distancesOf s) (parentsOf s) e
 
   pub parents-few : verticesOf s - 1 ≤ maxEdges
   parents-few =
       let e : length (parentsOf s) ≡ verticesOf s - 1 = length-table (verticesOf s - 1) _ in
-      omega (arith, pair-posted .tree .most, pair-posted .tree .few)
+      omega (arith, pair-shaped .tree .most, pair-shaped .tree .few)
 
 -- ---- a refusal has zeros everywhere
 module _ (count : ℕ) (s : List ℕ) (x : Sheet) where
@@ -51,11 +64,11 @@ module _ (count : ℕ) (s : List ℕ) (x : Sheet) where
 
   -- the form's
   pub form-refused : (v : Verdict) (r : Refusal) → answerOf v ≡ formTests count s → v ≡ Refused r → (x .verdict ≡ Refused r) × Blank x → SheetAnswer count s x
-  form-refused v r f g e = answer-refused r e (sym (refused-row r v (formTests count s) (pairTests s orElse test 11 (edgesDiffer count s)) g f))
+  form-refused v r f g e = answer-refused r e (sym (refused-row r v (formTests count s) (pairTests count s orElse test 11 (edgesDiffer count s)) g f))
 
   module _ (z : formTests count s ≡ pass) where
-    past-form : readTests count s ≡ (pairTests s orElse test 11 (edgesDiffer count s))
-    past-form = ap (λ (k : Answer). k orElse pairTests s orElse test 11 (edgesDiffer count s)) z
+    past-form : readTests count s ≡ (pairTests count s orElse test 11 (edgesDiffer count s))
+    past-form = ap (λ (k : Answer). k orElse pairTests count s orElse test 11 (edgesDiffer count s)) z
 
     -- more strains than a matrix may have
     many : maxStrains < strainsOf s → matrixTests (strainsOf s) (distancesOf s) ≡ fault 6 Nowhere
@@ -69,13 +82,13 @@ module _ (count : ℕ) (s : List ℕ) (x : Sheet) where
     pub many-strains : (n : ℕ) → n ≡ strainsOf s → maxStrains < n → (x .verdict ≡ Refused (record { reason = Strains; place = Nowhere })) × Blank x → SheetAnswer count s x
     many-strains n e h f =
         answer-refused (record { reason = Strains; place = Nowhere }) f
-        (past-form ∙ ap (λ (k : Answer). (k orElse test 8 (strainsDiffer s) orElse postedTests (strainsOf s) (distancesOf s) (parentsOf s)) orElse test 11 (edgesDiffer count s)) (many (omega arith)))
+        (past-form ∙ ap (λ (k : Answer). (k orElse test 8 (strainsDiffer s) orElse bothTests count (strainsOf s) (distancesOf s) (parentsOf s)) orElse test 11 (edgesDiffer count s)) (many (omega arith)))
 
     -- the matrix's and the tree's
-    pub pair-refused : (v : Verdict) (r : Refusal) → answerOf v ≡ pairTests s → v ≡ Refused r → (x .verdict ≡ Refused r) × Blank x → SheetAnswer count s x
-    pair-refused v r f g e = answer-refused r e (past-form ∙ sym (refused-row r v (pairTests s) (test 11 (edgesDiffer count s)) g f))
+    pub pair-refused : (v : Verdict) (r : Refusal) → answerOf v ≡ pairTests count s → v ≡ Refused r → (x .verdict ≡ Refused r) × Blank x → SheetAnswer count s x
+    pair-refused v r f g e = answer-refused r e (past-form ∙ sym (refused-row r v (pairTests count s) (test 11 (edgesDiffer count s)) g f))
 
-    module _ (y : pairTests s ≡ pass) where
+    module _ (y : pairTests count s ≡ pass) where
       past-pair : readTests count s ≡ test 11 (edgesDiffer count s)
       past-pair = past-form ∙ ap (λ (k : Answer). k orElse test 11 (edgesDiffer count s)) y
 

@@ -10,7 +10,7 @@ use Rattle.exact.specs.Sum.{sum, pairs, ind}
 use Rattle.exact.specs.Table.{tableFrom}
 use Rattle.exact.specs.LeastSquares.{path}
 use Rattle.verdict.specs.Table.{some, first, count}
-use Rattle.matrix.specs.Place.{place, pairAt, rowStart, rowPlace}
+use Rattle.matrix.specs.Place.{place, known, pairAt, rowStart, rowPlace}
 use Rattle.trees.specs.Chain.{lift, below, parts}
 use Rattle.endian.specs.Bytes.{number, twos}
 use Rattle.records.specs.Form.{startOf, recordsTests, formTests}
@@ -62,7 +62,7 @@ unfolding number startOf tableFrom
 numerators = refl
 
 pub accepted : sheetTests sheetA ≡ pass
-unfolding sum pairs ind tableFrom path some first count place pairAt rowStart rowPlace lift below parts number startOf recordsTests
+unfolding sum pairs ind tableFrom path some first count place known pairAt rowStart rowPlace lift below parts number startOf recordsTests
 accepted = refl
 
 -- its first two records: a sheet without lengths. The whole sheet is none, since bytes are left.
@@ -70,7 +70,7 @@ abbrev pub bareA : List ℕ
 bareA = take 35 sheetA
 
 pub bare-accepted : (formTests 2 bareA ≡ pass) × (readTests 2 bareA ≡ pass) × (formTests 2 sheetA ≡ fault 5 (Byte 35))
-unfolding tableFrom pairAt rowStart rowPlace some first count number startOf recordsTests
+unfolding tableFrom known pairAt rowStart rowPlace some first count number startOf recordsTests
 bare-accepted = (refl, refl, refl)
 
 pub same-front : (distancesOf bareA ≡ distancesOf sheetA) × (parentsOf bareA ≡ parentsOf sheetA)

@@ -2,28 +2,28 @@
 use mathlib.Core.Path.{_≡_, refl, sym, ap, ap₂, _∙_}
 use mathlib.Core.Bool.{Bool, not}
 use mathlib.Core.List.{List}
-use Prim.Native.Nat.{ℕ, _+_, _-_, _*_, _/_, _≤_}
+use Prim.Native.Nat.{ℕ, _+_, _-_, _*_, _/_, _≤_, _<_}
 use native.Mathlib.Omega.{arith}
-use borrow.Author.Tests.{eq-eqb, ne-eqb}
+use borrow.Author.Tests.{eq-eqb, ne-eqb, lt-ltb, le-ltb}
 use lib.Dec.{eqb}
 use lib.ListN.{length, take, drop, getD}
 use Rattle.exact.specs.Table.{table, padded}
 use Rattle.verdict.specs.declared.Place.the-variants.{Nowhere}
-use Rattle.verdict.specs.Answer.{pass, fault, test, _orElse_}
-use Rattle.verdict.proofs.Answers.{orElse-again}
+use Rattle.verdict.specs.Answer.{Answer, pass, fault, test, _orElse_}
+use Rattle.verdict.proofs.Answers.{orElse-again, orElse-assoc}
 use Rattle.matrix.specs.Limits.{maxStrains, maxPairs}
 use Rattle.matrix.specs.Place.{pairCount, fromRows}
 use Rattle.matrix.specs.Tests.{matrixTests}
 use Rattle.matrix.proofs.Places.{pairs-few}
 use Rattle.trees.specs.Tests.{treeTests}
-use Rattle.fit.specs.Tests.{postedTests}
+use Rattle.fit.specs.Tests.{shapeTests, seenTests, postedTests}
 use Rattle.endian.specs.Bytes.{number}
 use Rattle.records.specs.Form.{maxSheet, startOf, formTests}
 use Rattle.records.proofs.InTurn.{first-start}
 use Rattle.records.proofs.Formed.{form-short, record-ends, record-long}
 use Rattle.records.proofs.Decoding.{front-is, part-is}
 use Rattle.reading.specs.Holds.{strainsOf, rowAt, distancesOf, verticesOf, parentsOf}
-use Rattle.reading.specs.Tests.{pairTests}
+use Rattle.reading.specs.Tests.{bothTests, pairTests}
 
 -- the matrix and the tree: the tree starts at t and ends at l
 pub record Fronted (s : List ℕ) (t l : ℕ) : Type 0 where
@@ -81,20 +81,27 @@ module _ {s : List ℕ} {t l : ℕ} (w : Fronted s t l) where
       part-is 0 s (t + 6 + 4) l parents-start (w .there)
       ∙ ap₂ (λ (k a : ℕ). table k (λ i. getD s (a + i) 0)) parents-count (ap (λ (a : ℕ). a + 6 + 4) (w .tree-at))
 
-  pub pair-is : (n u : ℕ) (ds ps : List ℕ) → n ≡ number 2 s 6 → u ≡ number 2 s (t + 6) → ds ≡ distancesOf s → ps ≡ parentsOf s
-      → (matrixTests n ds orElse test 8 (not (eqb u n)) orElse postedTests n ds ps) ≡ pairTests s
-  pair-is n u ds ps e f g h =
-      ap₂ (λ (k : ℕ) (xs : List ℕ). matrixTests k xs orElse test 8 (not (eqb u k)) orElse postedTests k xs ps) e g
-      ∙ ap₂ (λ (v : ℕ) (xs : List ℕ). matrixTests (strainsOf s) (distancesOf s) orElse test 8 (not (eqb v (strainsOf s))) orElse postedTests (strainsOf s) (distancesOf s) xs)
+  pub pair-is : (count n u : ℕ) (ds ps : List ℕ) → n ≡ number 2 s 6 → u ≡ number 2 s (t + 6) → ds ≡ distancesOf s → ps ≡ parentsOf s
+      → (matrixTests n ds orElse test 8 (not (eqb u n)) orElse bothTests count n ds ps) ≡ pairTests count s
+  pair-is count n u ds ps e f g h =
+      ap₂ (λ (k : ℕ) (xs : List ℕ). matrixTests k xs orElse test 8 (not (eqb u k)) orElse bothTests count k xs ps) e g
+      ∙ ap₂ (λ (v : ℕ) (xs : List ℕ). matrixTests (strainsOf s) (distancesOf s) orElse test 8 (not (eqb v (strainsOf s))) orElse bothTests count (strainsOf s) (distancesOf s) xs)
       (f ∙ ap (λ (a : ℕ). number 2 s (a + 6)) (w .tree-at)) h
 
 -- ---- matrix and tree, by their two counts of strains
-module _ (n u : ℕ) (ds ps : List ℕ) where
-  pub apart : (u ≡ n → ⊥) → (matrixTests n ds orElse fault 8 Nowhere) ≡ (matrixTests n ds orElse test 8 (not (eqb u n)) orElse postedTests n ds ps)
-  apart h = ap (λ (b : Bool). matrixTests n ds orElse test 8 b orElse postedTests n ds ps) (sym (ap not (ne-eqb u n h)))
+module _ (count n u : ℕ) (ds ps : List ℕ) where
+  pub apart : (u ≡ n → ⊥) → (matrixTests n ds orElse fault 8 Nowhere) ≡ (matrixTests n ds orElse test 8 (not (eqb u n)) orElse bothTests count n ds ps)
+  apart h = ap (λ (b : Bool). matrixTests n ds orElse test 8 b orElse bothTests count n ds ps) (sym (ap not (ne-eqb u n h)))
 
-  -- the matrix may be asked before both together
-  pub together : u ≡ n → postedTests n ds ps ≡ (matrixTests n ds orElse test 8 (not (eqb u n)) orElse postedTests n ds ps)
-  together h =
-      sym (orElse-again (matrixTests n ds) (treeTests n ps))
-      ∙ ap (λ (b : Bool). matrixTests n ds orElse test 8 b orElse postedTests n ds ps) (sym (ap not (eq-eqb u n h)))
+  -- the matrix may be asked before both
+  module _ (h : u ≡ n) where
+    once-more : (x : Answer) → (matrixTests n ds orElse x) ≡ x → x ≡ (matrixTests n ds orElse test 8 (not (eqb u n)) orElse x)
+    once-more x e = sym e ∙ ap (λ (b : Bool). matrixTests n ds orElse test 8 b orElse x) (sym (ap not (eq-eqb u n h)))
+
+    pub together : 2 < count → postedTests n ds ps ≡ (matrixTests n ds orElse test 8 (not (eqb u n)) orElse bothTests count n ds ps)
+    together l = rw (lt-ltb 2 count l) (once-more (postedTests n ds ps)
+        (ap (λ (k : Answer). matrixTests n ds orElse k) (orElse-assoc (matrixTests n ds) (treeTests n ps) (seenTests n ds ps))
+        ∙ orElse-again (matrixTests n ds) (treeTests n ps orElse seenTests n ds ps) ∙ sym (orElse-assoc (matrixTests n ds) (treeTests n ps) (seenTests n ds ps))))
+
+    pub each : count ≤ 2 → shapeTests n ds ps ≡ (matrixTests n ds orElse test 8 (not (eqb u n)) orElse bothTests count n ds ps)
+    each l = rw (le-ltb 2 count l) (once-more (shapeTests n ds ps) (orElse-again (matrixTests n ds) (treeTests n ps)))

@@ -18,7 +18,7 @@ use Rattle.matrix.specs.Limits.{maxPairs}
 use Rattle.matrix.specs.Place.{pairCount}
 use Rattle.matrix.proofs.Places.{pairs-few}
 use Rattle.trees.specs.Limits.{maxEdges}
-use Rattle.fit.specs.Stands.{Posted}
+use Rattle.fit.specs.Stands.{Shaped, Posted}
 use Rattle.records.specs.Form.{formTests, startOf}
 use Rattle.records.proofs.Decoding.{front-is, front-length, front-there}
 use Rattle.reading.specs.declared.Sheet.{Sheet}
@@ -26,11 +26,11 @@ use Rattle.reading.specs.Holds.{strainsOf, distanceAt, distancesOf, vert
 use Rattle.reading.specs.Tests.{edgesDiffer, pairTests, readTests}
 use Rattle.reading.specs.Reads.{Held, SheetAnswer}
 use Rattle.reading.proofs.Formed.{Fronted, fronted, parents-start, parents-count, parents-are}
-use Rattle.reading.proofs.Answered.{pair-posted, parents-few}
+use Rattle.reading.proofs.Answered.{pair-shaped, pair-posted, parents-few}
 
 -- the matrix at the front of its array, the parents as a part of the bytes
 pub record Parts (s : List ℕ) (r : Sheet) : Type 0 where
-  pub posted : Posted (strainsOf s) (distancesOf s) (parentsOf s)
+  pub shaped : Shaped (strainsOf s) (distancesOf s) (parentsOf s)
   pub strains : r .strains ≡ strainsOf s
   pub room : r .pairs ≤ length (r .distances)
   pub size : r .pairs ≡ length (take (r .pairs) (r .distances))
@@ -53,23 +53,23 @@ pub accepted : (count : ℕ) (s : List ℕ) (r : Sheet) → SheetAnswer count s 
 accepted count s r a e = sym (a .answer) ∙ ap answerOf e
 
 module _ (count : ℕ) (s : List ℕ) (z : readTests count s ≡ pass) where
-  behind-form : (pairTests s orElse test 11 (edgesDiffer count s)) ≡ pass
-  behind-form = orElse-pass (formTests count s) (pairTests s orElse test 11 (edgesDiffer count s)) z .1
+  behind-form : (pairTests count s orElse test 11 (edgesDiffer count s)) ≡ pass
+  behind-form = orElse-pass (formTests count s) (pairTests count s orElse test 11 (edgesDiffer count s)) z .1
 
   pub form-passes : formTests count s ≡ pass
-  form-passes = orElse-pass (formTests count s) (pairTests s orElse test 11 (edgesDiffer count s)) z .0
+  form-passes = orElse-pass (formTests count s) (pairTests count s orElse test 11 (edgesDiffer count s)) z .0
 
-  pub pair-passes : pairTests s ≡ pass
-  pair-passes = orElse-pass (pairTests s) (test 11 (edgesDiffer count s)) behind-form .0
+  pub pair-passes : pairTests count s ≡ pass
+  pair-passes = orElse-pass (pairTests count s) (test 11 (edgesDiffer count s)) behind-form .0
 
   pub edges-same : edgesDiffer count s ≡ false
-  edges-same = test-pass 11 (edgesDiffer count s) (orElse-pass (pairTests s) (test 11 (edgesDiffer count s)) behind-form .1)
+  edges-same = test-pass 11 (edgesDiffer count s) (orElse-pass (pairTests count s) (test 11 (edgesDiffer count s)) behind-form .1)
 
-  pub posted : Posted (strainsOf s) (distancesOf s) (parentsOf s)
-  posted = pair-posted s pair-passes
+  pub shaped : Shaped (strainsOf s) (distancesOf s) (parentsOf s)
+  shaped = pair-shaped count s pair-passes
 
   few-pairs : pairCount (strainsOf s) ≤ maxPairs
-  few-pairs = pairs-few (strainsOf s) (posted .matrix .few)
+  few-pairs = pairs-few (strainsOf s) (shaped .matrix .few)
 
   parent-count : verticesOf s - 1 ≡ length (parentsOf s)
   parent-count = sym (length-table (verticesOf s - 1) _)
@@ -86,7 +86,7 @@ module _ (count : ℕ) (s : List ℕ) (z : readTests count s ≡ pass) where
 
     pub parts : Parts s r
     parts = record {
-      posted = posted;
+      shaped = shaped;
       strains = h .strains;
       room = front-there 0 maxPairs (r .pairs) (distanceAt s) (r .distances) kept (omega (arith, h .pairs, few-pairs));
       size = front-length 0 maxPairs (r .pairs) (distanceAt s) (r .distances) kept;
@@ -103,7 +103,7 @@ module _ (s : List ℕ) (z : readTests 3 s ≡ pass) (r : Sheet) (h : Held 3 s r
   whole = eqb-true (edgesOf s) (verticesOf s - 1) (not-false (eqb (edgesOf s) (verticesOf s - 1)) (edges-same 3 s z))
 
   few : r .edges ≤ maxEdges
-  few = omega (arith, h .edges, whole, parents-few s (pair-passes 3 s z))
+  few = omega (arith, h .edges, whole, parents-few 3 s (pair-passes 3 s z))
 
   lent : r .numerators ≡ padded (pos 0) maxEdges (r .edges) (numeratorAt s)
   lent = h .numerators ∙ ap (λ (k : ℕ). padded (pos 0) maxEdges k (numeratorAt s)) (sym (h .edges))
@@ -121,6 +121,10 @@ module _ (s : List ℕ) (z : readTests 3 s ≡ pass) (r : Sheet) (h : Held 3 s r
 -- ---- by the reader's answer
 pub read-parts : (count : ℕ) (s : List ℕ) (r : Sheet) → 2 ≤ count → SheetAnswer count s r → r .verdict ≡ Accepted → Parts s r
 read-parts count s r two a e = let z = accepted count s r a e in parts count s z two r (a .held z)
+
+-- a sheet with lengths: its matrix and tree pass together
+pub read-posted : (s : List ℕ) (r : Sheet) → SheetAnswer 3 s r → r .verdict ≡ Accepted → Posted (strainsOf s) (distancesOf s) (parentsOf s)
+read-posted s r a e = pair-posted s (pair-passes 3 s (accepted 3 s r a e))
 
 pub read-lengths : (s : List ℕ) (r : Sheet) → SheetAnswer 3 s r → r .verdict ≡ Accepted → Lengths s r
 read-lengths s r a e = let z = accepted 3 s r a e in lengths s z r (a .held z)

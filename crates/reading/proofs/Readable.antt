@@ -8,14 +8,17 @@ use Rattle.verdict.specs.Answer.{Answer, pass, test, _orElse_}
 use Rattle.verdict.proofs.Answers.{orElse-assoc, orElse-again}
 use Rattle.matrix.specs.Tests.{matrixTests}
 use Rattle.trees.specs.Tests.{treeTests}
-use Rattle.fit.specs.Tests.{proposalTests, judgeTests}
+use Rattle.fit.specs.Tests.{seenTests, proposalTests, judgeTests}
 use Rattle.records.specs.Form.{formTests}
 use Rattle.reading.specs.Holds.{strainsOf, distancesOf, treeStrainsOf, parentsOf, denominatorOf, numeratorsOf}
 use Rattle.reading.specs.Tests.{heldTests, sheetTests}
 
 -- the matrix may be asked before all the rest
-again : (m x y : Answer) → (m orElse ((m orElse x) orElse y)) ≡ ((m orElse x) orElse y)
-again m x y = ap (λ (k : Answer). m orElse k) (orElse-assoc m x y) ∙ orElse-again m (x orElse y) ∙ sym (orElse-assoc m x y)
+again : (m x y z : Answer) → (m orElse (((m orElse x) orElse y) orElse z)) ≡ (((m orElse x) orElse y) orElse z)
+again m x y z = ap (λ (k : Answer). m orElse k) grouped ∙ orElse-again m (x orElse (y orElse z)) ∙ sym grouped
+  where
+    grouped : (((m orElse x) orElse y) orElse z) ≡ (m orElse (x orElse (y orElse z)))
+    grouped = orElse-assoc (m orElse x) y z ∙ orElse-assoc m x (y orElse z)
 
 pub readable : (s : List ℕ) → formTests 3 s ≡ pass → treeStrainsOf s ≡ strainsOf s
     → sheetTests s ≡ judgeTests (strainsOf s) (distancesOf s) (parentsOf s) (denominatorOf s) (numeratorsOf s)
@@ -23,5 +26,5 @@ readable s form same =
     let judged = judgeTests (strainsOf s) (distancesOf s) (parentsOf s) (denominatorOf s) (numeratorsOf s) in
     ap (λ (z : Answer). z orElse heldTests s) form
     ∙ ap (λ (b : Bool). matrixTests (strainsOf s) (distancesOf s) orElse test 8 b orElse judged) (ap not (eq-eqb (treeStrainsOf s) (strainsOf s) same))
-    ∙ again (matrixTests (strainsOf s) (distancesOf s)) (treeTests (strainsOf s) (parentsOf s))
+    ∙ again (matrixTests (strainsOf s) (distancesOf s)) (treeTests (strainsOf s) (parentsOf s)) (seenTests (strainsOf s) (distancesOf s) (parentsOf s))
     (proposalTests (strainsOf s) (distancesOf s) (parentsOf s) (denominatorOf s) (numeratorsOf s))

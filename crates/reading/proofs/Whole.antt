@@ -16,12 +16,12 @@ use Rattle.verdict.proofs.Answers.{passes, orElse-pass, orElse-assoc, not-pass}
 use Rattle.matrix.specs.Tests.{matrixTests}
 use Rattle.trees.specs.Limits.{maxEdges}
 use Rattle.lengths.specs.Tests.{denominatorOut, numeratorOut}
-use Rattle.fit.specs.Tests.{postedTests, proposalTests, sumsTests}
+use Rattle.fit.specs.Tests.{proposalTests, sumsTests}
 use Rattle.records.specs.Form.{formTests}
 use Rattle.records.proofs.InTurn.{stays}
 use Rattle.reading.specs.declared.Sheet.{Sheet}
 use Rattle.reading.specs.Holds.{strainsOf, distancesOf, verticesOf, parentsOf, denominatorOf, edgesOf, numeratorsOf}
-use Rattle.reading.specs.Tests.{strainsDiffer, edgesDiffer, pairTests, readTests, sheetTests}
+use Rattle.reading.specs.Tests.{strainsDiffer, edgesDiffer, bothTests, pairTests, readTests, sheetTests}
 use Rattle.reading.specs.Reads.{SheetAnswer}
 
 -- the answer where the matrix and the tree pass on to a further test
@@ -30,19 +30,19 @@ furtherTests count s x =
     formTests count s
     orElse matrixTests (strainsOf s) (distancesOf s)
     orElse test 8 (strainsDiffer s)
-    orElse postedTests (strainsOf s) (distancesOf s) (parentsOf s)
+    orElse bothTests count (strainsOf s) (distancesOf s) (parentsOf s)
     orElse x
 
 module _ (count : ℕ) (s : List ℕ) where
   -- the form, the matrix and the tree
   abbrev front : Answer
-  front = formTests count s orElse pairTests s
+  front = formTests count s orElse pairTests count s
 
   read-is : readTests count s ≡ (front orElse test 11 (edgesDiffer count s))
-  read-is = sym (orElse-assoc (formTests count s) (pairTests s) (test 11 (edgesDiffer count s)))
+  read-is = sym (orElse-assoc (formTests count s) (pairTests count s) (test 11 (edgesDiffer count s)))
 
   further-is : (x : Answer) → furtherTests count s x ≡ (front orElse x)
-  further-is x = grouped (formTests count s) (matrixTests (strainsOf s) (distancesOf s)) (test 8 (strainsDiffer s)) (postedTests (strainsOf s) (distancesOf s) (parentsOf s))
+  further-is x = grouped (formTests count s) (matrixTests (strainsOf s) (distancesOf s)) (test 8 (strainsDiffer s)) (bothTests count (strainsOf s) (distancesOf s) (parentsOf s))
     where
       grouped : (f m d p : Answer) → (f orElse m orElse d orElse p orElse x) ≡ ((f orElse m orElse d orElse p) orElse x)
       grouped f m d p =

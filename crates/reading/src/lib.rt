@@ -19,10 +19,10 @@ ghost use Rattle.matrix.specs.Limits.{maxStrains, maxPairs};
 ghost use Rattle.matrix.specs.Place.{pairCount, fromRows};
 ghost use Rattle.matrix.specs.Tests.{matrixTests};
 ghost use Rattle.trees.specs.Limits.{maxEdges};
-ghost use Rattle.fit.specs.Tests.{postedTests};
 ghost use Rattle.endian.specs.Bytes.{number, twos};
 ghost use Rattle.records.specs.Form.{maxRecords, startOf, formTests};
 ghost use Rattle.reading.specs.Holds.{verticesOf};
+ghost use Rattle.reading.specs.Tests.{bothTests};
 ghost use Rattle.reading.specs.Reads.{Proposed, Blank, SheetAnswer};
 
 // What a sheet holds: N and the distances, then zeros; where the parents of its tree start and end among the
@@ -109,9 +109,9 @@ fn numerators(s: &[u8], at: usize, count: usize) -> [i64; Tree::MAX_EDGES]
     held
 }
 
-// 4, 6 to 10: the matrix; 8 where the tree is for other strains; both together.
-fn posted(n: u32, other: u32, distances: &[u16], parents: &[u8]) -> Verdict
-    ensures { λ r. ⌜ answerOf r ≡ (matrixTests n (now (distances .entry)) orElse test 8 (not (eqb other n)) orElse postedTests n (now (distances .entry)) (now (parents .entry))) ⌝ }
+// 4, 6 to 10, 16, 26: the matrix; 8 where the tree is for other strains; both, together where lengths follow.
+fn posted(count: usize, n: u32, other: u32, distances: &[u16], parents: &[u8]) -> Verdict
+    ensures { λ r. ⌜ answerOf r ≡ (matrixTests n (now (distances .entry)) orElse test 8 (not (eqb other n)) orElse bothTests count n (now (distances .entry)) (now (parents .entry))) ⌝ }
 {
     if other != n {
         let of_matrix = matrix::check_matrix(n, distances);
@@ -123,7 +123,10 @@ fn posted(n: u32, other: u32, distances: &[u16], parents: &[u8]) -> Verdict
             }),
         );
     }
-    posting::check_posting(n, distances, parents)
+    if count > 2 {
+        return posting::check_posting(n, distances, parents);
+    }
+    posting::check_shapes(n, distances, parents)
 }
 
 // The lengths of a sheet of the form, which start at `at`, beside a tree of so many edges: 11 where K is another
@@ -178,7 +181,7 @@ fn refused(refusal: Refusal) -> Sheet
     }
 }
 
-// What a sheet of the form holds: 6 to 11. More strains than a matrix may have are refused before a distance is
+// What a sheet of the form holds: 6 to 11, 16, 26. More strains than a matrix may have are refused before a distance is
 // read, another count than the tree's edges before a numerator is.
 fn held(s: &[u8], count: usize, tree: usize, end: usize) -> Sheet
     requires { ⌜ (2 ≤ count) × (count ≤ maxRecords) × (formTests count (now s) ≡ pass) × (tree ≡ startOf (now s) 1) × (end ≡ startOf (now s) 2) ⌝ }
@@ -197,7 +200,7 @@ fn held(s: &[u8], count: usize, tree: usize, end: usize) -> Sheet
     let body = tree + Layout::HEAD;
     let of_tree = endian::u16_at(s, body) as u32;
     let parents = body + 4;
-    let of_pair = posted(n, of_tree, &measured[..pairs], &s[parents..end]);
+    let of_pair = posted(count, n, of_tree, &measured[..pairs], &s[parents..end]);
     if let Verdict::Refused(refusal) = of_pair {
         return refused(refusal);
     }
@@ -220,7 +223,8 @@ fn held(s: &[u8], count: usize, tree: usize, end: usize) -> Sheet
     }
 }
 
-// What a sheet of so many records holds, three or, without lengths, two: 1 to 11, the first that applies.
+// What a sheet of so many records holds, three or, without lengths, two: 1 to 11, 16, 26, the first
+// that applies.
 pub fn read(s: &[u8], count: usize) -> Sheet
     requires { ⌜ (2 ≤ count) × (count ≤ maxRecords) ⌝ }
     ensures { λ r. ⌜ SheetAnswer count (now (s .entry)) r ⌝ }

@@ -11,33 +11,41 @@ use borrow.Author.Tests.{lt-ltb}
 use lib.Dec.{ltb}
 use lib.IntN.{ℤ, pos, natAbs, _-ℤ_, _*ℤ_}
 use lib.ListN.{length}
+use mir.Syntax.{w64}
+use mir.Val.{SFits}
+use Rattle.exact.proofs.Sign.{fits-abs}
 use Rattle.exact.specs.Fits.{Fits63}
 use Rattle.exact.specs.Sum.{sum, pairs}
 use Rattle.exact.specs.Table.{table, entryOf}
-use Rattle.exact.specs.LeastSquares.{sq, sumR}
+use Rattle.exact.specs.LeastSquares.{sq, hops, sumR}
 use Rattle.exact.specs.Nearest.{nearest}
 use Rattle.exact.proofs.Fill.{length-table, getD-table, table-cong}
 use Rattle.exact.proofs.LeastSquares.{path-cong}
 use Rattle.exact.proofs.Order.{≤-trans}
 use Rattle.exact.proofs.Sweep.{sum-abs}
-use Rattle.exact.proofs.Sum.{pairs-sums, S-cong}
+use Rattle.exact.proofs.Sum.{pairs-sums, S-cong, S-sq}
 use Rattle.matrix.specs.Limits.{maxPairs}
 use Rattle.matrix.specs.Place.{distance, pairCount}
-use Rattle.matrix.proofs.Places.{pairs-few}
+use Rattle.matrix.proofs.Completes.{known-near}
 use Rattle.trees.specs.Limits.{maxEdges}
 use Rattle.lengths.specs.Limits.{maxDenominator, maxNumerator}
-use Rattle.fit.specs.Quantities.{partsOf, roundedOf, treeLength, fOf, rOf}
+use Rattle.fit.specs.Quantities.{partsIn, roundedOf, treeLength, fOf, rOf, hOf}
 use Rattle.fit.specs.Stands.{Posted, Stands}
-use Rattle.fit.proofs.Demand3.{least, r-range}
+use Rattle.fit.proofs.Demand3.{least, r-range, h-high}
+use Rattle.fit_numbers.proofs.Back.{between}
 use Rattle.fit.proofs.Ranges.{bounds, rounded-range}
 use Rattle.paths.specs.Standing.{Standing}
 use Rattle.pairs.specs.Ready.{Ready}
 use Rattle.pairs.proofs.Lent as lent
 use Rattle.reporting.specs.Answers.{maxTreeLength}
 
+-- a number that fits 63 bits comes back as it went in
+pub fits-of : (z y : ℤ) → z ≡ y → Fits63 y → SFits w64 z
+fits-of z y e f = fits-abs z (omega (arith, ap natAbs e, between y 9223372036854775807 (f .low) (f .high)))
+
 module _ (N : ℕ) (ds ps : List ℕ) (D : ℕ) (ns : List ℤ) (s : Stands N ds ps D ns) where
   pub posted : Posted N ds ps
-  posted = record { matrix = s .matrix; tree = s .tree }
+  posted = record { matrix = s .matrix; tree = s .tree; seen = s .seen }
 
   pub edges-few : length ps ≤ maxEdges
   edges-few = lent.few-edges (s .tree)
@@ -51,6 +59,9 @@ module _ (N : ℕ) (ds ps : List ℕ) (D : ℕ) (ns : List ℤ) (s : Stands N ds
 
   pub f-fits : Fits63 (fOf N ds ps D ns)
   f-fits = record { low = least N ds ps D ns s .f-low; high = ≤-trans (least N ds ps D ns s .f-high) (record { le = tt }) }
+
+  pub h-fits : Fits63 (hOf N ds ps)
+  h-fits = record { low = S-sq (pairs-sums N) (hops (length ps) (partsIn ds ps)); high = ≤-trans (h-high (length ps) edges-few (partsIn ds ps) N (s .matrix .few)) (record { le = tt }) }
 
   -- the table of rounded lengths, zeros behind its edges
   module _ (ms : List ℤ) (e : ms ≡ table maxEdges (λ v. cond (ltb v (length ps)) (nearest D (entryOf ns v)) (pos 0))) where
@@ -66,17 +77,17 @@ module _ (N : ℕ) (ds ps : List ℕ) (D : ℕ) (ns : List ℤ) (s : Stands N ds
       one = omega arith;
       most = omega arith;
       room = omega (arith, s .matrix .whole);
-      near = lent.near (s .matrix);
+      near = known-near (s .matrix);
       small = record {
         room = omega (arith, edges-few, ap length e, length-table maxEdges (λ u. cond (ltb u (length ps)) (nearest D (entryOf ns u)) (pos 0)));
-        near = λ v h. omega (arith, ap natAbs (entry-is v h), rounded-range (bounds (s .matrix) (s .lengths)) (partsOf ps) v h);
+        near = λ v h. omega (arith, ap natAbs (entry-is v h), rounded-range (bounds (s .matrix) (s .lengths)) (partsIn ds ps) v h);
       };
     }
 
-    pub r-same : sumR (pairs N) (length ps) (partsOf ps) (distance ds) (entryOf ms) ≡ rOf N ds ps D ns
-    r-same = S-cong (pairs-sums N) (λ p. ap (λ (z : ℤ). sq (pos 1000 *ℤ distance ds p -ℤ z)) (path-cong (length ps) (partsOf ps) (entryOf ms) (roundedOf D ns) entry-is p))
+    pub r-same : sumR (pairs N) (length ps) (partsIn ds ps) (distance ds) (entryOf ms) ≡ rOf N ds ps D ns
+    r-same = S-cong (pairs-sums N) (λ p. ap (λ (z : ℤ). sq (pos 1000 *ℤ distance ds p -ℤ z)) (path-cong (length ps) (partsIn ds ps) (entryOf ms) (roundedOf D ns) entry-is p))
 
-    pub r-fits : Fits63 (sumR (pairs N) (length ps) (partsOf ps) (distance ds) (entryOf ms))
+    pub r-fits : Fits63 (sumR (pairs N) (length ps) (partsIn ds ps) (distance ds) (entryOf ms))
     r-fits = let (low, high) = r-range N ds ps D ns s in subst Fits63 (sym r-same) (record { low = low; high = ≤-trans high (record { le = tt }) })
 
     pub rounded-is : (after : List ℤ) → after ≡ table (length ps) (entryOf ms) → after ≡ table (length ps) (roundedOf D ns)

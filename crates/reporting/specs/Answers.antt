@@ -27,9 +27,9 @@ pub record Reported (N : ℕ) (ds ps : List ℕ) (D : ℕ) (ns : List ℤ) (afte
   pub total : x .length ≡ treeLength ns
   pub f : x .f ≡ fOf N ds ps D ns
   pub r : x .r ≡ rOf N ds ps D ns
-  pub h : x .h ≡ hOf N ps
+  pub h : x .h ≡ hOf N ds ps
   -- what F is over in the mean square, or none
-  pub mean : x .mean ≡ meanOf N (length ps) D
+  pub mean : x .mean ≡ meanOf N ds (length ps) D
   pub rounded : after ≡ table (length ps) (roundedOf D ns)
   pub stands : Stands N ds ps D ns
   pub least : Least N ds ps D ns
@@ -60,6 +60,6 @@ proposalReportTests N ds ps D ns size = proposalTests N ds ps D ns orElse test 1
 abbrev pub ProposalReport : (N : ℕ) → (ds ps : List ℕ) → (D : ℕ) → (ns before after : List ℤ) → FitReport → Type 0
 ProposalReport N ds ps D ns before after x = Report (proposalReportTests N ds ps D ns (length before)) N ds ps D ns before after x
 
--- of all that is lent: 4, 6 to 15
+-- of all that is lent: 4, 6 to 16, 26
 abbrev pub ReportAnswer : (N : ℕ) → (ds ps : List ℕ) → (D : ℕ) → (ns before after : List ℤ) → FitReport → Type 0
 ReportAnswer N ds ps D ns before after x = Report (reportTests N ds ps D ns (length before)) N ds ps D ns before after x

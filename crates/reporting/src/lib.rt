@@ -80,7 +80,7 @@ fn numbered(
         f,
         r: squares.r,
         h: squares.h,
-        mean: mean::mean_over(n, edges, d),
+        mean: mean::mean_over(n, distances, edges, d),
     }
 }
 
@@ -109,7 +109,7 @@ pub fn report_proposal(
     numbered(n, distances, parents, d, numerators, rounded)
 }
 
-// The report: 4, 6 to 15, the first that applies.
+// The report: 4, 6 to 16, 26, the first that applies.
 pub fn report(
     n: u32,
     distances: &[u16],

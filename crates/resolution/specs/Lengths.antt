@@ -11,7 +11,7 @@ use Rattle.exact.specs.LeastSquares.{Equations, Minimum, Rounding, Any, sumR}
 use Rattle.exact.specs.Fraction.{Fraction, lowestTop, lowestBottom, Lowest}
 use Rattle.matrix.specs.Place.{distance}
 use Rattle.trees.specs.Chain.{parentOf}
-use Rattle.fit.specs.Quantities.{partsOf}
+use Rattle.fit.specs.Quantities.{partsIn}
 use Rattle.resolution.specs.Formula.{edgeLength}
 
 -- the length of edge v of a matrix ds of N strains and a tree ps
@@ -31,7 +31,7 @@ thousandthOf N ds ps v = nearest (bottomOf N ds ps v) (topOf N ds ps v)
 
 -- R
 abbrev pub squareOf : ℕ → List ℕ → List ℕ → ℤ
-squareOf N ds ps = sumR (pairs N) (length ps) (partsOf ps) (distance ds) (thousandthOf N ds ps)
+squareOf N ds ps = sumR (pairs N) (length ps) (partsIn ds ps) (distance ds) (thousandthOf N ds ps)
 
 -- n over D are the fractions num over den of K edges, over one denominator
 pub record Over (K : ℕ) (num : ℕ → ℤ) (den : ℕ → ℕ) (D : ℤ) (n : ℕ → ℤ) : Type 0 where
@@ -41,9 +41,9 @@ pub record Over (K : ℕ) (num : ℕ → ℤ) (den : ℕ → ℕ) (D : ℤ) (n :
 -- RULES, The verdict and Least squares, of lengths over one denominator: every edge's sum of remainders is zero, the
 -- fit is a minimum, and the rounding to thousandths is close to it
 pub record Fits (N : ℕ) (ds ps : List ℕ) (D : ℤ) (n : ℕ → ℤ) : Type 0 where
-  pub equations : Equations (pairs N) (length ps) (partsOf ps) (distance ds) D n
-  pub minimum : Minimum (pairs N) (length ps) (partsOf ps) (distance ds) D n Any
-  pub rounding : Rounding (pairs N) (length ps) (partsOf ps) (distance ds) D n (thousandthOf N ds ps) Any
+  pub equations : Equations (pairs N) (length ps) (partsIn ds ps) (distance ds) D n
+  pub minimum : Minimum (pairs N) (length ps) (partsIn ds ps) (distance ds) D n Any
+  pub rounding : Rounding (pairs N) (length ps) (partsIn ds ps) (distance ds) D n (thousandthOf N ds ps) Any
 
 -- no denominator is larger
 abbrev pub maxBottom : ℕ

@@ -1,12 +1,13 @@
--- The answer that a matrix and a tree to be fitted with no proposal get: 4, 6 to 10, 25, 15.
+-- The answer that a matrix and a tree to be fitted with no proposal get: 4, 6 to 10, 16, 25, 26, 15.
 use mathlib.Core.Bool.{Bool, _||_}
 use mathlib.Core.List.{List}
 use Prim.Native.Nat.{ℕ, _+_}
 use lib.ListN.{length}
 use Rattle.verdict.specs.Answer.{Answer, fault, test, atFirst, _orElse_}
 use Rattle.verdict.specs.declared.Place.the-variants.{Vertex}
+use Rattle.matrix.specs.Place.{someMissing}
 use Rattle.trees.specs.Chain.{parentOf}
-use Rattle.fit.specs.Tests.{bufferOut, postedTests}
+use Rattle.fit.specs.Tests.{bufferOut, shapeTests}
 use Rattle.resolution.specs.Children.{degreeOut}
 
 -- 25: the lowest inner vertex not of degree three
@@ -17,9 +18,13 @@ degreeTests N ps = atFirst (length ps + 1) (degreeOut N (length ps) (parentOf ps
 abbrev pub buffersOut : ℕ → (a b c : ℕ) → Bool
 buffersOut K a b c = bufferOut a K || (bufferOut b K || bufferOut c K)
 
--- what the matrix and the tree are asked: 4, 6 to 10, 25
+-- what they are asked beyond their shapes: 25, then 26 for any pair that is missing
+abbrev pub directOnly : ℕ → List ℕ → List ℕ → Answer
+directOnly N ds ps = degreeTests N ps orElse test 26 (someMissing ds)
+
+-- what the matrix and the tree are asked: 4, 6 to 10, 16, 25, 26
 abbrev pub resolvedTests : ℕ → List ℕ → List ℕ → Answer
-resolvedTests N ds ps = postedTests N ds ps orElse degreeTests N ps
+resolvedTests N ds ps = shapeTests N ds ps orElse directOnly N ds ps
 
 -- with buffers of a, b and c entries
 abbrev pub directTests : ℕ → List ℕ → List ℕ → (a b c : ℕ) → Answer

@@ -1,7 +1,7 @@
 -- A matrix and a resolved tree that pass: the split sums are in range, so the lengths by them are the tree's own, these are a fit
 -- (`direct`), and their rounding can be summed over (`ready-rounded`, `r-within`).
 use mathlib.Core.Path.{_≡_, sym, _∙_, ap, ap₂, subst}
-use mathlib.Core.Bool.{cond}
+use mathlib.Core.Bool.{Bool, cond}
 use mathlib.Core.List.{List, []}
 use Prim.Native.Nat.{ℕ, _≤_, _<_}
 use native.Mathlib.Omega.{arith}
@@ -9,13 +9,13 @@ use borrow.Author.Tests.{lt-ltb}
 use lib.IntN.{ℤ, pos, _-ℤ_, _*ℤ_, natAbs}
 use lib.ListN.{length, getD}
 use Rattle.verdict.specs.declared.Place.the-variants.{Vertex}
-use Rattle.verdict.specs.Answer.{pass}
-use Rattle.verdict.proofs.Answers.{refuses, first-pass}
+use Rattle.verdict.specs.Answer.{pass, test}
+use Rattle.verdict.proofs.Answers.{refuses, first-pass, orElse-pass, test-pass}
 use Rattle.exact.specs.Order.{_≤ᶻ_, Within}
 use Rattle.exact.specs.Sum.{pairs}
 use Rattle.exact.specs.Table.{table, entryOf}
 use Rattle.exact.specs.Nearest.{nearest}
-use Rattle.exact.specs.LeastSquares.{sq, sumR}
+use Rattle.exact.specs.LeastSquares.{sq, sumR, Equations, Minimum, Rounding, Any}
 use Rattle.exact.specs.Fits.{Fits63}
 use Rattle.exact.specs.Fraction.{lowestTop, lowestBottom}
 use Rattle.exact.proofs.Divisors.{lowest-is}
@@ -26,18 +26,23 @@ use Rattle.exact.proofs.Sum.{pairs-sums, S-cong}
 use Rattle.exact.proofs.LeastSquares.{path-cong}
 use Rattle.exact.proofs.Sign.{within→abs}
 use Rattle.matrix.specs.Limits.{maxDistance}
-use Rattle.matrix.specs.Place.{place, distance}
+use Rattle.matrix.specs.Place as at
+use Rattle.matrix.specs.Place.{place, distance, someMissing, Complete}
+use Rattle.matrix.proofs.Completes.{known-near}
 use Rattle.trees.specs.Limits.{maxEdges}
 use Rattle.trees.specs.Chain.{parentOf, partsPair}
 use Rattle.trees.specs.Allowed.{Allowed}
-use Rattle.fit.specs.Stands.{Posted}
+use Rattle.fit.specs.Stands.{Shaped, Posted}
+use Rattle.fit.specs.Quantities.{partsIn}
+use Rattle.fit.proofs.Steps.{all-parted}
+use Rattle.fit.proofs.Complete.{complete-parts, complete-posted}
 use Rattle.paths.specs.Standing.{Standing}
 use Rattle.pairs.specs.Ready.{Ready}
-use Rattle.pairs.proofs.Lent.{near, few-edges}
+use Rattle.pairs.proofs.Lent.{few-edges}
 use Rattle.tables.specs.Answers.{SplitTable}
 use Rattle.resolution.specs.Children.{Resolved}
 use Rattle.resolution.specs.Splits.{splitAt, maxSplit, Gathered, SplitSums, lengthBy}
-use Rattle.resolution.specs.Tests.{degreeTests}
+use Rattle.resolution.specs.Tests.{degreeTests, directOnly}
 use Rattle.resolution.specs.Lengths.{lengthOf, topOf, bottomOf, thousandthOf, squareOf, Direct}
 use Rattle.resolution.proofs.BySplits.{edge-positive}
 use Rattle.resolution.proofs.Degrees.{resolved}
@@ -48,7 +53,7 @@ use Rattle.neighbours.specs.Listed.{Listed}
 use Rattle.edge_lengths.specs.Known.{Known}
 use Rattle.edge_lengths.specs.Tables.{Lowered}
 
-module _ (N : ℕ) (ds ps : List ℕ) (posted : Posted N ds ps) (passed : degreeTests N ps ≡ pass) where
+module _ (N : ℕ) (ds ps : List ℕ) (shaped : Shaped N ds ps) (passed : directOnly N ds ps ≡ pass) where
   abbrev K : ℕ
   K = length ps
 
@@ -59,32 +64,48 @@ module _ (N : ℕ) (ds ps : List ℕ) (posted : Posted N ds ps) (passed : degree
   d = distance ds
 
   ok : Allowed N K par
-  ok = posted .tree
+  ok = shaped .tree
+
+  both : (degreeTests N ps ≡ pass) × (test 26 (someMissing ds) ≡ pass)
+  both = orElse-pass (degreeTests N ps) (test 26 (someMissing ds)) passed
 
   pub res : Resolved N K par
-  res = resolved N K par (first-pass _ _ _ (λ w. refuses 25 (Vertex w)) passed)
+  res = resolved N K par (first-pass _ _ _ (λ w. refuses 25 (Vertex w)) (both .0))
+
+  all : Complete ds
+  all = test-pass 26 (someMissing ds) (both .1)
+
+  -- every pair is measured, so the sums run over all pairs
+  parts-are : partsIn ds ps ≡ partsPair par
+  parts-are = complete-parts ds ps all
+
+  pub posted : Posted N ds ps
+  posted = complete-posted N ds ps shaped all
 
   range : (p : ℕ × ℕ) → (pos 0 ≤ᶻ d p) × (d p ≤ᶻ pos maxDistance)
-  range p = (nn-pos (getD ds (place (p .0) (p .1)) 0), pos-≤ (near (posted .matrix) (place (p .0) (p .1))))
+  range p = (nn-pos (at.known (getD ds (place (p .0) (p .1)) 0)), pos-≤ (known-near (shaped .matrix) (place (p .0) (p .1))))
 
   pub direct : Direct N ds ps
   direct = record {
     lowest = in-lowest N K par ok res d range;
     most = den-most N K par ok res d range;
     fits = λ D n c. record {
-      equations = meets-all N K par ok res d range D n c;
-      minimum = is-minimum N K par ok res d range D n c;
-      rounding = is-rounding N K par ok res d range D n c;
+      equations = subst (λ (A : ℕ → ℕ × ℕ → Bool). Equations (pairs N) K A d D n) (sym parts-are) (meets-all N K par ok res d range D n c);
+      minimum = subst (λ (A : ℕ → ℕ × ℕ → Bool). Minimum (pairs N) K A d D n Any) (sym parts-are) (is-minimum N K par ok res d range D n c);
+      rounding = subst (λ (A : ℕ → ℕ × ℕ → Bool). Rounding (pairs N) K A d D n (thousandthOf N ds ps) Any) (sym parts-are) (is-rounding N K par ok res d range D n c);
     };
   }
 
   -- what `split` handed over
   module _ (sums : List ℤ) (is : SplitTable N ds ps sums) where
+    sums-are : (v : ℕ) → v < K → entryOf sums v ≡ splitAt N par d v
+    sums-are v l = is .entries v l ∙ all-parted N ds ps v
+
     pub splits : SplitSums N K par sums
-    splits = record { distances = d; range = range; is = is .entries }
+    splits = record { distances = d; range = range; is = sums-are }
 
     gathered : Gathered K sums
-    gathered = record { near = λ v l. subst (λ z. natAbs z ≤ maxSplit) (sym (is .entries v l)) (within→abs maxSplit (splitAt N par d v) (within v)) }
+    gathered = record { near = λ v l. subst (λ z. natAbs z ≤ maxSplit) (sym (sums-are v l)) (within→abs maxSplit (splitAt N par d v) (within v)) }
       where
         within : (v : ℕ) → Within (pos maxSplit) (splitAt N par d v)
         within v = record { low = ≤-trans (le-by (nn-pos maxSplit) (by-ring [] (search quote depth 20) tt)) (split-nn N d range par v); high = split-le N d range (ok .few) par v }
@@ -97,7 +118,7 @@ module _ (N : ℕ) (ds ps : List ℕ) (posted : Posted N ds ps) (passed : degree
     own v l = lowest-at (lengthBy N K par (entryOf sums) v) (lengthOf N ds ps v) (facts v l) _ _ (lowest-is (lengthBy N K par (entryOf sums) v) (facts v l .some)) (edge-positive N K par ok res d v l)
       where
         facts : (v : ℕ) → v < K → Unreduced (lengthBy N K par (entryOf sums) v) (lengthOf N ds ps v)
-        facts v l = unreduced N K par ok res d range (entryOf sums) (is .entries) v l
+        facts v l = unreduced N K par ok res d range (entryOf sums) sums-are v l
 
     -- what `fill` did
     module _ (ns : List ℤ) (es : List ℕ) (ms : List ℤ) (w : Lowered K (lengthBy N K par (entryOf sums)) ns es ms) where
@@ -118,19 +139,19 @@ module _ (N : ℕ) (ds ps : List ℕ) (posted : Posted N ds ps) (passed : degree
         standing = s;
         one = omega arith;
         most = omega arith;
-        room = omega (arith, posted .matrix .whole);
-        near = near (posted .matrix);
+        room = omega (arith, shaped .matrix .whole);
+        near = known-near (shaped .matrix);
         small = record {
           room = omega (arith, few-edges ok, ap length (w .rounded) ∙ length-table maxEdges _);
           near = λ v h. omega (arith, ap natAbs (entry-is v h), rounded-small N K par ok res d range v h);
         };
       }
 
-      pub r-same : sumR (pairs N) K (partsPair par) d (entryOf ms) ≡ squareOf N ds ps
-      r-same = S-cong (pairs-sums N) (λ p. ap (λ (z : ℤ). sq (pos 1000 *ℤ d p -ℤ z)) (path-cong K (partsPair par) (entryOf ms) (thousandthOf N ds ps) entry-is p))
+      pub r-same : sumR (pairs N) K (partsIn ds ps) d (entryOf ms) ≡ squareOf N ds ps
+      r-same = S-cong (pairs-sums N) (λ p. ap (λ (z : ℤ). sq (pos 1000 *ℤ d p -ℤ z)) (path-cong K (partsIn ds ps) (entryOf ms) (thousandthOf N ds ps) entry-is p))
 
-      pub r-within : Fits63 (sumR (pairs N) K (partsPair par) d (entryOf ms))
-      r-within = subst Fits63 (sym r-same) (r-fits N K par ok res d range)
+      pub r-within : Fits63 (sumR (pairs N) K (partsIn ds ps) d (entryOf ms))
+      r-within = subst Fits63 (sym r-same) (subst (λ (A : ℕ → ℕ × ℕ → Bool). Fits63 (sumR (pairs N) K A d (thousandthOf N ds ps))) (sym parts-are) (r-fits N K par ok res d range))
 
       pub rounded-is : (after : List ℤ) → after ≡ table K (entryOf ms) → after ≡ table K (thousandthOf N ds ps)
       rounded-is after f = f ∙ table-cong (pos 0) K (entryOf ms) (thousandthOf N ds ps) entry-is

@@ -1,7 +1,7 @@
--- The tests of `fit_resolved`: the first refusal counts, and what passes all of them is a posted, resolved tree beside three buffers
+-- The tests of `fit_resolved`: the first refusal counts, and what passes all of them is a resolved tree with a complete matrix, beside three buffers
 -- of the right size. A refusal writes nothing.
 use mathlib.Core.Path.{_≡_, refl, sym, _∙_, ap, ap₂}
-use mathlib.Core.Bool.{true, false, _||_, false≢true}
+use mathlib.Core.Bool.{Bool, true, false, _||_, false≢true}
 use mathlib.Core.List.{List}
 use Prim.Native.Nat.{ℕ}
 use native.Mathlib.Decide.{ℕ-discrete}
@@ -15,10 +15,15 @@ use Rattle.verdict.specs.declared.Refusal.{Refusal}
 use Rattle.verdict.specs.declared.Verdict.the-variants.{Accepted, Refused}
 use Rattle.verdict.specs.declared.Verdict.{Verdict}
 use Rattle.verdict.proofs.Answers.{orElse-pass, orElse-assoc, refused-row, accepted-row, not-pass, test-pass, or-none}
-use Rattle.fit.specs.Stands.{Posted}
-use Rattle.fit.specs.Tests.{bufferOut, postedTests}
-use Rattle.fit.proofs.Exactly.{→posted}
-use Rattle.resolution.specs.Tests.{degreeTests, buffersOut, resolvedTests, directTests}
+use Rattle.matrix.specs.Place.{someMissing}
+use Rattle.matrix.specs.Proper as matrix
+use Rattle.matrix.specs.declared.Survey.{Survey}
+use Rattle.matrix.specs.Surveys.{Surveyed}
+use Rattle.matrix.proofs.Checked.{proper→}
+use Rattle.fit.specs.Stands.{Shaped}
+use Rattle.fit.specs.Tests.{bufferOut, shapeTests}
+use Rattle.fit.proofs.Exactly.{→shaped}
+use Rattle.resolution.specs.Tests.{degreeTests, directOnly, buffersOut, resolvedTests, directTests}
 use Rattle.resolving.specs.declared.DirectFit.{DirectFit}
 use Rattle.resolving.specs.Answers.{Resolves, DirectAnswer}
 
@@ -41,35 +46,44 @@ same-size a b e = by-cases (ℕ-discrete a b) (λ q. q) (λ n. absurd (false≢t
     off : (a ≡ b → ⊥) → bufferOut a b ≡ true
     off n = rw (ne-eqb a b n)
 
--- ---- the tests in order, where v answers those of the matrix with the tree
-module _ (N : ℕ) (ds ps : List ℕ) (a b c : ℕ) (v : Verdict) (asked : answerOf v ≡ postedTests N ds ps) where
-  abbrev rest : Answer
-  rest = degreeTests N ps orElse test 15 (buffersOut (length ps) a b c)
+-- ---- degrees and missing pairs, where v answers the degrees
+module _ (N : ℕ) (ds ps : List ℕ) (v : Verdict) (asked : answerOf v ≡ degreeTests N ps) where
+  pub degrees-refused : (k : Refusal) → v ≡ Refused k → refusalOf k ≡ directOnly N ds ps
+  degrees-refused k q = refused-row k v (degreeTests N ps) (test 26 (someMissing ds)) q asked
 
-  in-order : (postedTests N ds ps orElse rest) ≡ directTests N ds ps a b c
-  in-order = sym (orElse-assoc (postedTests N ds ps) (degreeTests N ps) (test 15 (buffersOut (length ps) a b c)))
+  -- what a survey of the matrix tells behind them
+  pub missing-asked : v ≡ Accepted → matrix.Proper N ds → (r : Survey) → Surveyed N ds r → test 26 (r .missing) ≡ directOnly N ds ps
+  missing-asked q m r s = ap (λ (b : Bool). test 26 b) (s .some-missing (proper→ N ds m)) ∙ accepted-row v (degreeTests N ps) (test 26 (someMissing ds)) q asked
+
+-- ---- the tests in order, where v answers those of the matrix with the tree
+module _ (N : ℕ) (ds ps : List ℕ) (a b c : ℕ) (v : Verdict) (asked : answerOf v ≡ shapeTests N ds ps) where
+  abbrev rest : Answer
+  rest = directOnly N ds ps orElse test 15 (buffersOut (length ps) a b c)
+
+  in-order : (shapeTests N ds ps orElse rest) ≡ directTests N ds ps a b c
+  in-order = sym (orElse-assoc (shapeTests N ds ps) (directOnly N ds ps) (test 15 (buffersOut (length ps) a b c)))
 
   pub first : (k : Refusal) → v ≡ Refused k → refusalOf k ≡ directTests N ds ps a b c
-  first k q = refused-row k v (postedTests N ds ps) rest q asked ∙ in-order
+  first k q = refused-row k v (shapeTests N ds ps) rest q asked ∙ in-order
 
-  pub posted : v ≡ Accepted → Posted N ds ps
-  posted q = →posted N ds ps (sym asked ∙ ap answerOf q)
+  pub shaped : v ≡ Accepted → Shaped N ds ps
+  shaped q = →shaped N ds ps (sym asked ∙ ap answerOf q)
 
-  pub then : v ≡ Accepted → (w x y : Verdict) → answerOf w ≡ degreeTests N ps → answerOf x ≡ test 15 (buffersOut (length ps) a b c)
+  pub then : v ≡ Accepted → (w x y : Verdict) → answerOf w ≡ directOnly N ds ps → answerOf x ≡ test 15 (buffersOut (length ps) a b c)
       → answerOf y ≡ (answerOf w orElse answerOf x) → answerOf y ≡ directTests N ds ps a b c
-  then q w x y e f g = g ∙ ap₂ _orElse_ e f ∙ accepted-row v (postedTests N ds ps) rest q asked ∙ in-order
+  then q w x y e f g = g ∙ ap₂ _orElse_ e f ∙ accepted-row v (shapeTests N ds ps) rest q asked ∙ in-order
 
 -- ---- what passes all tests
 pub record Passed (N : ℕ) (ds ps : List ℕ) (a b c : ℕ) : Type 0 where
-  pub posted : Posted N ds ps
-  pub resolved : degreeTests N ps ≡ pass
+  pub shaped : Shaped N ds ps
+  pub resolved : directOnly N ds ps ≡ pass
   pub first : a ≡ length ps
   pub second : b ≡ length ps
   pub third : c ≡ length ps
 
 pub passed : (N : ℕ) (ds ps : List ℕ) (a b c : ℕ) → directTests N ds ps a b c ≡ pass → Passed N ds ps a b c
 passed N ds ps a b c z = record {
-  posted = →posted N ds ps (before .0);
+  shaped = →shaped N ds ps (before .0);
   resolved = before .1;
   first = same-size a (length ps) (sizes .0);
   second = same-size b (length ps) (others .0);
@@ -79,8 +93,8 @@ passed N ds ps a b c z = record {
     all : (resolvedTests N ds ps ≡ pass) × (test 15 (buffersOut (length ps) a b c) ≡ pass)
     all = orElse-pass (resolvedTests N ds ps) (test 15 (buffersOut (length ps) a b c)) z
 
-    before : (postedTests N ds ps ≡ pass) × (degreeTests N ps ≡ pass)
-    before = orElse-pass (postedTests N ds ps) (degreeTests N ps) (all .0)
+    before : (shapeTests N ds ps ≡ pass) × (directOnly N ds ps ≡ pass)
+    before = orElse-pass (shapeTests N ds ps) (directOnly N ds ps) (all .0)
 
     sizes : (bufferOut a (length ps) ≡ false) × ((bufferOut b (length ps) || bufferOut c (length ps)) ≡ false)
     sizes = or-none (bufferOut a (length ps)) (bufferOut b (length ps) || bufferOut c (length ps)) (test-pass 15 (buffersOut (length ps) a b c) (all .1))

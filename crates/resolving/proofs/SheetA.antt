@@ -13,7 +13,7 @@ use Rattle.exact.specs.Nearest.{nearest}
 use Rattle.verdict.specs.Answer.{number, fault}
 use Rattle.verdict.specs.declared.Place.the-variants.{Vertex}
 use Rattle.verdict.specs.Table.{some, first, count}
-use Rattle.matrix.specs.Place.{place}
+use Rattle.matrix.specs.Place.{place, known}
 use Rattle.trees.specs.Chain.{lift, below, parts}
 use Rattle.fit.specs.Figures.{distancesA, parentsA, starOf, same, sameList}
 use Rattle.fit.specs.Quantities.{hOf}
@@ -29,13 +29,13 @@ fits =
     && sameList (table 5 (λ v. pos (bottomOf 4 distancesA parentsA v))) (pos 2 ∷ pos 2 ∷ pos 2 ∷ pos 2 ∷ pos 2 ∷ [])
     && sameList (table 5 (thousandthOf 4 distancesA parentsA)) (pos 1500 ∷ pos 1500 ∷ pos 1500 ∷ pos 3500 ∷ pos 3500 ∷ [])
     && same (squareOf 4 distancesA parentsA) (pos 1000000)
-    && same (hOf 4 parentsA) (pos 44)
+    && same (hOf 4 distancesA parentsA) (pos 44)
     && eqb (number (resolvedTests 4 distancesA parentsA)) 0
 
 pub sheet-a : fits ≡ true
-unfolding sum pairs ind tableFrom path hops nearest some first count place lift below parts divisorIn childTo size between
+unfolding sum pairs ind tableFrom path hops nearest some first count place known lift below parts divisorIn childTo size between
 sheet-a = refl
 
 pub star : resolvedTests 4 distancesA (starOf 4) ≡ fault 25 (Vertex 4)
-unfolding sum pairs ind tableFrom path hops nearest some first count place lift below parts divisorIn childTo size between
+unfolding sum pairs ind tableFrom path hops nearest some first count place known lift below parts divisorIn childTo size between
 star = refl

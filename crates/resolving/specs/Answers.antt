@@ -17,7 +17,7 @@ pub record Resolves (N : ℕ) (ds ps : List ℕ) (ns : List ℤ) (es : List ℕ)
   pub bottoms : es ≡ table (length ps) (bottomOf N ds ps)
   pub rounded : ms ≡ table (length ps) (thousandthOf N ds ps)
   pub r : x .r ≡ squareOf N ds ps
-  pub h : x .h ≡ hOf N ps
+  pub h : x .h ≡ hOf N ds ps
   pub direct : Direct N ds ps
 
 -- the whole answer; a refusal reports nothing and leaves the three buffers as they were

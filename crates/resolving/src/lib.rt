@@ -9,8 +9,8 @@ ghost use lib.ListN.{length};
 ghost use Rattle.verdict.specs.Answer.{answerOf, pass, test};
 ghost use Rattle.trees.specs.Chain.{parentOf};
 ghost use Rattle.trees.specs.Allowed.{Allowed};
-ghost use Rattle.fit.specs.Stands.{Posted};
-ghost use Rattle.resolution.specs.Tests.{degreeTests, buffersOut, directTests};
+ghost use Rattle.fit.specs.Stands.{Shaped};
+ghost use Rattle.resolution.specs.Tests.{degreeTests, directOnly, buffersOut, directTests};
 ghost use Rattle.resolving.specs.Answers.{Resolves, DirectAnswer, LengthsAnswer};
 
 // R and H of a resolved tree's fit; of a refusal the verdict, and zeros.
@@ -30,8 +30,8 @@ pub fn resolve(
     denominators: &mut [u32],
     rounded: &mut [i64],
 ) -> DirectFit
-    requires { ⌜ Posted n (now distances) (now parents) ⌝ }
-    requires { ⌜ degreeTests n (now parents) ≡ pass ⌝ }
+    requires { ⌜ Shaped n (now distances) (now parents) ⌝ }
+    requires { ⌜ directOnly n (now distances) (now parents) ≡ pass ⌝ }
     requires { ⌜ (length (now numerators) ≡ length (now parents)) × (length (now denominators) ≡ length (now parents)) × (length (now rounded) ≡ length (now parents)) ⌝ }
     ensures { λ r. ⌜ r .verdict ≡ Verdict.Accepted ⌝ }
     ensures { λ r. ⌜ Resolves n (now (distances .entry)) (now (parents .entry)) (now (numerators .exit)) (now (denominators .exit)) (now (rounded .exit)) r ⌝ }
@@ -60,7 +60,7 @@ pub fn resolve(
 }
 
 // 25: the first inner vertex that is not of degree three.
-pub fn check_resolved(n: u32, parents: &[u8]) -> Verdict
+fn check_degrees(n: u32, parents: &[u8]) -> Verdict
     requires { ⌜ Allowed n (length (now parents)) (parentOf (now parents)) ⌝ }
     ensures { λ r. ⌜ answerOf r ≡ degreeTests n (now (parents .entry)) ⌝ }
 {
@@ -69,6 +69,24 @@ pub fn check_resolved(n: u32, parents: &[u8]) -> Verdict
         return Verdict::Refused(Refusal {
             reason: Reason::Unresolved,
             place: Place::Vertex(w),
+        });
+    }
+    Verdict::Accepted
+}
+
+// 25, then 26 for any pair that is missing.
+pub fn check_resolved(n: u32, distances: &[u16], parents: &[u8]) -> Verdict
+    requires { ⌜ Shaped n (now distances) (now parents) ⌝ }
+    ensures { λ r. ⌜ answerOf r ≡ directOnly n (now (distances .entry)) (now (parents .entry)) ⌝ }
+{
+    let degrees = check_degrees(n, parents);
+    if let Verdict::Refused(refusal) = degrees {
+        return Verdict::Refused(refusal);
+    }
+    if matrix::survey_matrix(n, distances).missing {
+        return Verdict::Refused(Refusal {
+            reason: Reason::Unmeasured,
+            place: Place::Nowhere,
         });
     }
     Verdict::Accepted
@@ -99,22 +117,22 @@ fn check_buffers(edges: usize, a: usize, b: usize, c: usize) -> Verdict
     Verdict::Accepted
 }
 
-// What a matrix and a tree are asked before the fit, with buffers of a, b and c entries: 4, 6 to 10, 25, 15, the first that
-// applies.
+// What a matrix and a tree are asked before the fit, with buffers of a, b and c entries: 4, 6 to 10, 16, 25, 26, 15, the
+// first that applies.
 fn check_direct(n: u32, distances: &[u16], parents: &[u8], a: usize, b: usize, c: usize) -> Verdict
     ensures { λ r. ⌜ answerOf r ≡ directTests n (now (distances .entry)) (now (parents .entry)) a b c ⌝ }
 {
-    let posted = posting::check_posting(n, distances, parents);
-    if let Verdict::Refused(refusal) = posted {
+    let shaped = posting::check_shapes(n, distances, parents);
+    if let Verdict::Refused(refusal) = shaped {
         return Verdict::Refused(refusal);
     }
-    let resolved = check_resolved(n, parents);
+    let resolved = check_resolved(n, distances, parents);
     let lent = check_buffers(parents.len(), a, b, c);
     verdict::or_else(resolved, lent)
 }
 
-// The fit of a resolved tree: 4, 6 to 10, 25, 15, the first that applies; a refusal leaves the three
-// buffers as they were.
+// The fit of a resolved tree beside a complete matrix: 4, 6 to 10, 16, 25, 26, 15, the first that applies; a refusal leaves
+// the three buffers as they were.
 pub fn fit_resolved(
     n: u32,
     distances: &[u16],

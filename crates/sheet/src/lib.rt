@@ -17,7 +17,7 @@ pub struct SheetFit {
     pub rounded: [i64; Tree::MAX_EDGES],
 }
 
-// The answer to a sheet: 1 to 14, the first that applies.
+// The answer to a sheet: 1 to 14, 16, 26, the first that applies.
 pub fn sheet_judge(s: &[u8]) -> Verdict
     ensures { λ r. ⌜ answerOf r ≡ sheetTests (now (s .entry)) ⌝ }
 {
@@ -52,7 +52,7 @@ fn unfitted(refusal: Refusal) -> SheetFit
     }
 }
 
-// The report on a sheet: 1 to 14, the first that applies.
+// The report on a sheet: 1 to 14, 16, 26, the first that applies.
 pub fn sheet_report(s: &[u8]) -> SheetFit
     ensures { λ r. ⌜ SheetReport (now (s .entry)) r ⌝ }
 {

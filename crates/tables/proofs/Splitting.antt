@@ -14,11 +14,12 @@ use Rattle.exact.proofs.Quote.{by-ring, quote}
 use Rattle.exact.proofs.Sum.{sum-cong, sum-zero, pairs-sums, S-cong}
 use Rattle.matrix.specs.Place.{distance}
 use Rattle.trees.specs.Limits.{maxEdges}
-use Rattle.fit.specs.Quantities.{partsOf, splitSum}
+use Rattle.fit.specs.Quantities.{partsIn, splitSum}
 use Rattle.fit.specs.Stands.{Posted}
 use Rattle.paths.specs.Standing.{Standing}
 use Rattle.pairs.specs.Ready.{Ready, InRange}
-use Rattle.pairs.proofs.Lent.{near, few-edges}
+use Rattle.matrix.proofs.Completes.{known-near}
+use Rattle.pairs.proofs.Lent.{few-edges}
 
 once : (z : ℤ) → pos 1 *ℤ z -ℤ pos 0 ≡ z
 once z = by-ring (z ∷ []) (search quote depth 20) tt
@@ -37,7 +38,7 @@ module _ {ns : List ℤ} (e : ns ≡ table maxEdges (λ _. pos 0)) where
     one = omega arith;
     most = omega arith;
     room = omega (arith, p .matrix .whole);
-    near = near (p .matrix);
+    near = known-near (p .matrix);
     small = record { room = omega (arith, few-edges (p .tree), ap length e, length-table maxEdges (λ (_ : ℕ). pos 0)); near = λ v l. omega (arith, ap natAbs (none v)) };
   }
 
@@ -45,7 +46,7 @@ module _ {ns : List ℤ} (e : ns ≡ table maxEdges (λ _. pos 0)) where
   none-range few = record { room = omega (arith, ap length e, length-table maxEdges (λ (_ : ℕ). pos 0)); near = λ v l. omega (arith, ap natAbs (none v)) }
 
   -- so an edge's sum is its split sum
-  pub none-sum : (N : ℕ) (ds ps : List ℕ) (v : ℕ) → edgeSum (pairs N) (length ps) (partsOf ps) (distance ds) (pos 1) (entryOf ns) v ≡ splitSum N ds ps v
-  none-sum N ds ps v = S-cong (pairs-sums N) (λ p. ap (λ (z : ℤ). ind (partsOf ps v p) *ℤ z)
-      (ap (λ (z : ℤ). pos 1 *ℤ distance ds p -ℤ z) (path-none (length ps) (partsOf ps) (entryOf ns) p none)
+  pub none-sum : (N : ℕ) (ds ps : List ℕ) (v : ℕ) → edgeSum (pairs N) (length ps) (partsIn ds ps) (distance ds) (pos 1) (entryOf ns) v ≡ splitSum N ds ps v
+  none-sum N ds ps v = S-cong (pairs-sums N) (λ p. ap (λ (z : ℤ). ind (partsIn ds ps v p) *ℤ z)
+      (ap (λ (z : ℤ). pos 1 *ℤ distance ds p -ℤ z) (path-none (length ps) (partsIn ds ps) (entryOf ns) p none)
       ∙ once (distance ds p)))

@@ -47,7 +47,7 @@ pub fn copy_out(edges: usize, from: &[i64; Tree::MAX_EDGES], to: &mut [i64])
     }
 }
 
-// Split sums (`split`): 4, 6 to 10, 15, the first that applies; a refusal leaves the buffer as it was.
+// Split sums (`split`): 4, 6 to 10, 16, 26, 15, the first that applies; a refusal leaves the buffer as it was.
 pub fn split_sums(n: u32, distances: &[u16], parents: &[u8], sums: &mut [i64]) -> Verdict
     ensures { λ r. ⌜ SplitAnswer n (now (distances .entry)) (now (parents .entry)) (now (sums .entry)) (now (sums .exit)) r ⌝ }
 {
@@ -94,7 +94,7 @@ fn fill_paths(
     }
 }
 
-// Path lengths: 6, 8 to 13, 15, the first that applies; a refusal leaves the buffer as it was.
+// Path lengths: 6, 8 to 13, 16, 15, the first that applies; a refusal leaves the buffer as it was.
 pub fn path_lengths(
     n: u32,
     parents: &[u8],

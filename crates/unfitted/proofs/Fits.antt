@@ -15,12 +15,10 @@ use Rattle.verdict.specs.declared.Verdict.{Verdict}
 use Rattle.verdict.specs.declared.Verdict.the-variants.{Accepted, Refused}
 use Rattle.verdict.proofs.Answers.{not-pass}
 use Rattle.trees.specs.Limits.{maxEdges}
-use Rattle.trees.specs.Chain.{parentOf}
-use Rattle.trees.specs.Allowed.{Allowed}
 use Rattle.trees.specs.EdgeTable.{EdgeTable}
 use Rattle.trees.proofs.EdgeTables.{front-kept}
-use Rattle.fit.specs.Stands.{Posted}
-use Rattle.resolution.specs.Tests.{degreeTests}
+use Rattle.fit.specs.Stands.{Shaped}
+use Rattle.resolution.specs.Tests.{directOnly}
 use Rattle.resolution.specs.Lengths.{topOf, bottomOf, thousandthOf}
 use Rattle.resolving.specs.declared.DirectFit.{DirectFit}
 use Rattle.resolving.specs.Answers.{Resolves}
@@ -71,28 +69,25 @@ module _ (s : List ℕ) (r : Sheet) (a : SheetAnswer 2 s r) (e : r .verdict ≡ 
   parts = read-parts 2 s r (omega arith) a e
 
   few : length (parentsOf s) ≤ maxEdges
-  few = omega (arith, parts .posted .tree .most, parts .posted .tree .few)
+  few = omega (arith, parts .shaped .tree .most, parts .shaped .tree .few)
 
   pub few-edges : r .end - r .parents ≤ maxEdges
   few-edges = omega (arith, few, parts .count)
 
-  pub allowed : Allowed (r .strains) (length (take (r .end - r .parents) (drop (r .parents) s))) (parentOf (take (r .end - r .parents) (drop (r .parents) s)))
-  allowed = to-parts parts (λ N ds ps. Allowed N (length ps) (parentOf ps)) (parts .posted .tree)
-
-  pub posted : Posted (r .strains) (take (r .pairs) (r .distances)) (take (r .end - r .parents) (drop (r .parents) s))
-  posted = to-parts parts Posted (parts .posted)
+  pub shaped : Shaped (r .strains) (take (r .pairs) (r .distances)) (take (r .end - r .parents) (drop (r .parents) s))
+  shaped = to-parts parts Shaped (parts .shaped)
 
   pub parents-size : r .end - r .parents ≡ length (take (r .end - r .parents) (drop (r .parents) s))
   parents-size = parts .count ∙ sym (ap length (parts .parents))
 
-  module _ (v : Verdict) (h : answerOf v ≡ degreeTests (r .strains) (take (r .end - r .parents) (drop (r .parents) s))) where
+  module _ (v : Verdict) (h : answerOf v ≡ directOnly (r .strains) (take (r .pairs) (r .distances)) (take (r .end - r .parents) (drop (r .parents) s))) where
     pub degrees-asked : answerOf v ≡ unfittedTests s
     degrees-asked =
-        of-parts parts (λ N ds ps. answerOf v ≡ degreeTests N ps) h
-        ∙ sym (two-asked s (accepted 2 s r a e) (degreeTests (strainsOf s) (parentsOf s)))
+        of-parts parts (λ N ds ps. answerOf v ≡ directOnly N ds ps) h
+        ∙ sym (two-asked s (accepted 2 s r a e) (directOnly (strainsOf s) (distancesOf s) (parentsOf s)))
 
     module _ (f : v ≡ Accepted) where
-      pub resolved : degreeTests (r .strains) (take (r .end - r .parents) (drop (r .parents) s)) ≡ pass
+      pub resolved : directOnly (r .strains) (take (r .pairs) (r .distances)) (take (r .end - r .parents) (drop (r .parents) s)) ≡ pass
       resolved = sym h ∙ ap answerOf f
 
       zero : unfittedTests s ≡ pass

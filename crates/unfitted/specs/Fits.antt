@@ -10,8 +10,8 @@ use Rattle.verdict.specs.Answer.{Answer, pass, answerOf, test, _orElse_}
 use Rattle.matrix.specs.Tests.{matrixTests}
 use Rattle.trees.specs.Limits.{maxEdges}
 use Rattle.trees.specs.EdgeTable.{EdgeTable}
-use Rattle.fit.specs.Tests.{postedTests}
-use Rattle.resolution.specs.Tests.{degreeTests}
+use Rattle.fit.specs.Tests.{shapeTests}
+use Rattle.resolution.specs.Tests.{directOnly}
 use Rattle.resolution.specs.Lengths.{topOf, bottomOf, thousandthOf}
 use Rattle.resolving.specs.Answers.{Resolves}
 use Rattle.records.specs.Form.{formTests}
@@ -19,15 +19,15 @@ use Rattle.reading.specs.Holds.{strainsOf, distancesOf, parentsOf}
 use Rattle.reading.specs.Tests.{strainsDiffer}
 use Rattle.unfitted.specs.declared.UnfittedFit.{UnfittedFit}
 
--- the whole answer to a sheet without lengths: its form, the matrix, whether the tree is for as many strains, both together, and whether
--- the tree is resolved; 1 to 10, 25
+-- the whole answer to a sheet without lengths: its form, the matrix, whether the tree is for as many strains, both by their shapes, whether
+-- the tree is resolved and the matrix complete; 1 to 10, 16, 25, 26
 abbrev pub unfittedTests : List ℕ → Answer
 unfittedTests s =
     formTests 2 s
     orElse matrixTests (strainsOf s) (distancesOf s)
     orElse test 8 (strainsDiffer s)
-    orElse postedTests (strainsOf s) (distancesOf s) (parentsOf s)
-    orElse degreeTests (strainsOf s) (parentsOf s)
+    orElse shapeTests (strainsOf s) (distancesOf s) (parentsOf s)
+    orElse directOnly (strainsOf s) (distancesOf s) (parentsOf s)
 
 -- a denominator for each of K edges, then zeros
 pub record Denominators (K : ℕ) (f : ℕ → ℕ) (r : List ℕ) : Type 0 where

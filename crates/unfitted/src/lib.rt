@@ -45,7 +45,7 @@ fn refused(refusal: Refusal) -> UnfittedFit
     }
 }
 
-// The direct fit of a sheet without lengths: 1 to 10, 25, the first that applies.
+// The direct fit of a sheet without lengths: 1 to 10, 16, 25, 26, the first that applies.
 pub fn unfitted_fit(s: &[u8]) -> UnfittedFit
     ensures { λ r. ⌜ UnfittedAnswer (now (s .entry)) r ⌝ }
 {
@@ -58,12 +58,12 @@ pub fn unfitted_fit(s: &[u8]) -> UnfittedFit
     let pairs = sheet.pairs;
     let parents = sheet.parents;
     let end = sheet.end;
-    let of_tree = resolving::check_resolved(strains, &s[parents..end]);
+    let distances = sheet.distances;
+    let of_tree = resolving::check_resolved(strains, &distances[..pairs], &s[parents..end]);
     if let Verdict::Refused(refusal) = of_tree {
         return refused(refusal);
     }
     let edges = end - parents;
-    let distances = sheet.distances;
     let mut tops = lengths::no_lengths();
     let mut bottoms = no_denominators();
     let mut rounded = lengths::no_lengths();

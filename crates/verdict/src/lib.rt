@@ -22,6 +22,7 @@ pub enum Reason {
     Buffer,
     PastRoot,
     Unresolved,
+    Unmeasured,
 }
 
 // Where the fault is: the lowest byte, vertex or edge at fault, an edge with its sum, or no place of its own.
@@ -65,6 +66,7 @@ fn reason_number(reason: Reason) -> u32
         Reason::Buffer => 15,
         Reason::PastRoot => 16,
         Reason::Unresolved => 25,
+        Reason::Unmeasured => 26,
     }
 }
 

@@ -1,5 +1,8 @@
 -- The shares, handed up, are the sums.
 use mathlib.Core.Path.{_∙_}
+use lib.IntN.{pos}
+use Rattle.exact.specs.Table.{entryOf}
+use Rattle.fit.proofs.Measured.{all-remainders}
 use borrow.Author.Needs.{needs}
 use Rattle.edge_sums.proofs.edge_sums.Statement.{statement}
 use Rattle.edge_sums.proofs.edge_sums.Tie as tie
@@ -11,9 +14,9 @@ handed-up-requires : tie.Need-handed-up-requires
 handed-up-requires c κs = search needs
 
 returns : tie.Need-returns
-returns c = record {
+returns c = let a = c .before .before .before .before .before .args in record {
   size = c .handed-up .ensures .size;
-  entries = λ v h. c .handed-up .ensures .entries v h ∙ c .before .before .shares .ensures .1 v h;
+  entries = λ v h. c .handed-up .ensures .entries v h ∙ c .before .before .shares .ensures .1 v h ∙ all-remainders (a .n) (a .edges) (a .distances .now) (a .parents .now) (pos (a .d)) (entryOf (a .numerators .now)) v;
   rest = c .handed-up .ensures .rest;
 }
 

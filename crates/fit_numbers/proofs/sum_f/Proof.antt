@@ -1,10 +1,11 @@
 -- The accumulator stands for the sum of the terms before the pair at hand, modulo 2^64; F is small, so at the end it is F.
-use mathlib.Core.Path.{_≡_, sym, _∙_, subst}
+use mathlib.Core.Path.{_≡_, sym, _∙_, ap, subst}
 use Prim.Native.Nat.{_≤_, _<_, _^_}
 use native.Mathlib.Omega.{arith}
 use borrow.Author.Needs.{needs}
-use lib.IntN.{pos}
-use lib.ListN.{length}
+use lib.IntN.{ℤ, pos}
+use mir.Syntax.{w64}
+use mir.Val.{toZ, ofZ}
 use Rattle.exact.specs.LeastSquares.{sumF}
 use Rattle.exact.specs.Order.{_≤ᶻ_}
 use Rattle.exact.specs.Sum.{pairs, sweep}
@@ -14,16 +15,16 @@ use Rattle.exact.proofs.Modular.{modulo-zero}
 use Rattle.exact.proofs.Sign.{fits-abs, back-pos}
 use Rattle.exact.proofs.Order.{≤-pos}
 use Rattle.matrix.specs.Place.{distance}
-use Rattle.trees.specs.Chain.{parentOf, partsPair}
+use Rattle.fit.specs.Quantities.{partsIn}
 use Rattle.pairs.specs.Next.{ahead}
-use Rattle.pairs.proofs.Remaining.{slot}
 use Rattle.pairs.proofs.Turns.{PairAt, pair-start, swept-start, pair-next, swept-end}
-use Rattle.fit_numbers.proofs.Terms.{termOf, term-fits, term-back, gathered-next, gathered-is}
+use Rattle.fit_numbers.proofs.Terms.{term-whole, gathered-next, gathered-is}
+use Rattle.fit_numbers.specs.Terms.{termOf}
 use Rattle.fit_numbers.proofs.sum_f.Statement.{statement}
 use Rattle.fit_numbers.proofs.sum_f.Tie as tie
 
 abbrev Inv-loop : tie.InvT-loop
-Inv-loop n edges d distances parents masks numerators acc₀ i₀ j₀ acc i j = PairAt n i j × (acc < 2 ^ 64) × Modulo acc (sweep (termOf n edges d distances parents numerators) j i)
+Inv-loop n edges d distances parents masks numerators acc₀ i₀ j₀ acc i j = PairAt n i j × (acc < 2 ^ 64) × Modulo acc (sweep (termOf edges d distances parents numerators) j i)
 
 abbrev μ-loop : tie.MeasureT-loop
 μ-loop n edges d distances parents masks numerators acc₀ i₀ j₀ acc i j = ahead n i j
@@ -31,29 +32,8 @@ abbrev μ-loop : tie.MeasureT-loop
 loop-holds : tie.Need-loop-holds Inv-loop μ-loop
 loop-holds c = (pair-start _ (c .before .before .pre .0 .standing .allowed .three), omega arith, rw swept-start modulo-zero)
 
-place-requires : tie.Need-place-requires Inv-loop μ-loop
-place-requires c κs = search needs
-
-found : (c : tie.After-place Inv-loop μ-loop) → c .place .result < length (c .before .before .before .before .before .args .distances .now)
-found c = let l = c .before .before in
-    omega (arith, c .place .ensures, slot (l .before .before .before .pre .0) (l .loop .i) (l .loop .j) (l .loop .inv .0 .rising) (c .before .loop-test .taken))
-
-mul-far : tie.Need-mul-far Inv-loop μ-loop
-mul-far c = record { fits = omega (arith, found c) }
-
-shared-slice-read-far : tie.Need-shared-slice-read-far Inv-loop μ-loop
-shared-slice-read-far c = found (c .before)
-
-cast-far : tie.Need-cast-far Inv-loop μ-loop
-cast-far c = fits-abs _ (omega (arith, c .before .before .before .before .before .before .pre .0 .near (c .before .place .result)))
-
-remainder-requires : tie.Need-remainder-requires Inv-loop μ-loop
-remainder-requires c κs = search needs
-
-mul-term : tie.Need-mul-term Inv-loop μ-loop
-mul-term c = let at = c .before .before in
-    let l = at .before .before in
-    term-fits (l .before .before .before .pre .0) (l .before .before .before .pre .1 .0) _ _ (l .loop .inv .0 .rising) (at .before .loop-test .taken) _ (at .place .ensures) _ (c .remainder .ensures)
+product-requires : tie.Need-product-requires Inv-loop μ-loop
+product-requires c κs = search needs
 
 accumulate-requires : tie.Need-accumulate-requires Inv-loop μ-loop
 accumulate-requires c κs = search needs
@@ -65,20 +45,20 @@ loop-less : tie.Need-loop-less Inv-loop μ-loop
 loop-less c = c .next-pair .ensures .nearer _ (omega arith)
 
 loop-again : tie.Need-loop-again Inv-loop μ-loop
-loop-again c = let at = c .before .before .before .before in
-    let l = at .before .before in
-    let a = l .before .before .before .args in
-    let taken = at .before .loop-test .taken in
+loop-again c = let l = c .before .before .before .before in
+    let p = l .before .before .before in
+    let a = p .args in
+    let f = termOf (a .edges) (a .d) (a .distances .now) (a .parents .now) (a .numerators .now) in
     let next = c .next-pair .ensures in (
-      pair-next (l .loop .inv .0) taken next,
+      pair-next (l .loop .inv .0) (c .before .before .before .loop-test .taken) next,
       omega arith,
-      gathered-next (termOf (a .n) (a .edges) (a .d) (a .distances .now) (a .parents .now) (a .numerators .now)) _ _ _ _ _ _ (l .loop .inv .2) (c .before .accumulate .ensures)
-          (term-back (l .before .before .before .pre .0) (l .before .before .before .pre .1 .0) _ _ (l .loop .inv .0 .rising) taken _ (at .place .ensures) _ (c .before .before .remainder .ensures)) next,
+      gathered-next f _ _ _ _ _ _ (l .loop .inv .2) (c .before .accumulate .ensures)
+          (ap (λ (z : ℤ). toZ w64 (ofZ w64 z)) (c .before .before .product .ensures) ∙ term-whole (p .pre .0) (p .pre .1 .0) (l .loop .i, l .loop .j)) next,
     )
 
 -- F at the end
 gathered : (c : tie.After-loop Inv-loop μ-loop) → let a = c .before .before .before .before .args in
-    pos (c .before .loop .acc) ≡ sumF (pairs (a .n)) (a .edges) (partsPair (parentOf (a .parents .now))) (distance (a .distances .now)) (pos (a .d)) (entryOf (a .numerators .now))
+    pos (c .before .loop .acc) ≡ sumF (pairs (a .n)) (a .edges) (partsIn (a .distances .now) (a .parents .now)) (distance (a .distances .now)) (pos (a .d)) (entryOf (a .numerators .now))
 gathered c = let l = c .before in
     gathered-is _ _ (l .loop .inv .1) (l .before .before .before .pre .1 .1) (subst (Modulo (l .loop .acc)) (swept-end _ (l .loop .inv .0) (c .loop-test .left)) (l .loop .inv .2))
 
@@ -98,12 +78,7 @@ sum-f-spec =
     Inv-loop
     μ-loop
     loop-holds
-    place-requires
-    mul-far
-    shared-slice-read-far
-    cast-far
-    remainder-requires
-    mul-term
+    product-requires
     accumulate-requires
     next-pair-requires
     loop-less

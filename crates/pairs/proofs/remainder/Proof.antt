@@ -1,12 +1,13 @@
 -- Every step fits: the distance stands at its place, D times it is small, and so is the path.
-use mathlib.Core.Path.{_≡_}
+use mathlib.Core.Path.{_≡_, sym}
+use mathlib.Core.Bool.{true}
 use Prim.Native.Nat.{ℕ, _<_}
 use native.Mathlib.Omega.{arith}
 use lib.ListN.{length}
 use mir.Facts.{toZ-ofZ}
 use Rattle.exact.proofs.Sign.{fits-abs}
-use Rattle.matrix.specs.Place.{place}
-use Rattle.pairs.proofs.Remaining.{slot, scaled, scaled-fits, remainder-fits, worked}
+use Rattle.matrix.specs.Place.{place, measured}
+use Rattle.pairs.proofs.Remaining.{slot, has, has-not, far-near, scaled, scaled-fits, remainder-fits, worked}
 use borrow.Author.Needs.{needs}
 use Rattle.pairs.proofs.remainder.Statement.{statement}
 use Rattle.pairs.proofs.remainder.Tie as tie
@@ -42,36 +43,47 @@ mul-far c = record { fits = omega (arith, found c) }
 shared-slice-read-far : tie.Need-shared-slice-read-far
 shared-slice-read-far c = found (c .before)
 
-cast-far : tie.Need-cast-far
-cast-far c = fits-abs _ (omega (arith, c .before .before .before .before .pre .0 .near (c .before .place .result)))
+returns : tie.Need-returns
+returns c = let at = c .before .before in
+    sym (has-not (at .before .before .before .pre .0) (i at) (j at) (rising at) (strain at) _ (same at) (c .if1 .taken))
+
+-- the pair is measured
+there : (c : tie.Else1) → measured (c .before .before .before .before .before .args .distances .now) (i (c .before .before), j (c .before .before)) ≡ true
+there c = let at = c .before .before in has (at .before .before .before .pre .0) (i at) (j at) (rising at) (strain at) _ (same at) (c .if1 .left)
 
 cast-result : tie.Need-cast-result
 cast-result c = search needs
 
+cast-result-2 : tie.Need-cast-result-2
+cast-result-2 c =
+    let at = c .before .before in
+    rw (same at) (fits-abs _ (omega (arith, far-near (at .before .before .before .pre .0) (i at) (j at) (rising at) (strain at) (there c))))
+
 mul-result : tie.Need-mul-result
 mul-result c =
-    let at = c .before in
+    let at = c .before .before in
     let w = at .before .before .before .pre .0 in
-    rw (same at, scaled w (i at) (j at) (rising at) (strain at)) (scaled-fits w (i at) (j at) (rising at) (strain at))
+    rw (same at, scaled w (i at) (j at) (rising at) (strain at) (there c)) (scaled-fits w (i at) (j at) (rising at) (strain at) (there c))
 
 path-requires : tie.Need-path-requires
 path-requires c κs =
-    let w = c .before .before .before .before .pre .0 in
-    (w .standing, (w .small, (omega (arith, rising (c .before), strain (c .before)), omega (arith, rising (c .before), strain (c .before)))))
+    let at = c .before .before in
+    let w = at .before .before .before .pre .0 in
+    (w .standing, (w .small, (omega (arith, rising at, strain at), omega (arith, rising at, strain at))))
 
 sub-result : tie.Need-sub-result
 sub-result c =
-    let at = c .before .before in
+    let at = c .before .before .before in
     let w = at .before .before .before .pre .0 in
-    rw (worked w (i at) (j at) (rising at) (strain at) _ _ (same at) (c .path .ensures)) (remainder-fits w (i at) (j at) (rising at) (strain at))
+    rw (worked w (i at) (j at) (rising at) (strain at) _ _ (same at) (there (c .before)) (c .path .ensures)) (remainder-fits w (i at) (j at) (rising at) (strain at))
 
-returns : tie.Need-returns
-returns c =
-    let at = c .before .before in
+returns-2 : tie.Need-returns-2
+returns-2 c =
+    let at = c .before .before .before in
     let w = at .before .before .before .pre .0 in
-    rw (worked w (i at) (j at) (rising at) (strain at) _ _ (same at) (c .path .ensures)) (toZ-ofZ (remainder-fits w (i at) (j at) (rising at) (strain at)))
+    rw (worked w (i at) (j at) (rising at) (strain at) _ _ (same at) (there (c .before)) (c .path .ensures)) (toZ-ofZ (remainder-fits w (i at) (j at) (rising at) (strain at)))
 
 pub remainder-spec : {M : Type 1} → statement M
 remainder-spec =
     tie.close
-    (tie.spec place-requires mul-far shared-slice-read-far cast-far cast-result mul-result path-requires sub-result returns)
+    (tie.spec place-requires mul-far shared-slice-read-far returns cast-result cast-result-2 mul-result path-requires sub-result returns-2)

@@ -20,6 +20,9 @@ use Rattle.reading.proofs.held.Tie as tie
 abbrev bytes : tie.After-shared-slice-known → List ℕ
 bytes c = c .before .args .s .now
 
+abbrev counted : tie.After-shared-slice-known → ℕ
+counted c = c .before .args .count
+
 here : (c : tie.After-shared-slice-known) → Fronted (bytes c) (c .before .args .tree) (c .before .args .end)
 here c = fronted _ (bytes c) (c .before .pre .2) (c .before .pre .0) _ _ (c .before .pre .3) (c .before .pre .4)
 
@@ -34,13 +37,13 @@ measured c =
     distances-are (here (n .before)) _ _ _ (n .u16-at .ensures) (c .before .pair-count .ensures) (c .distances .ensures)
 
 -- the answer to matrix and tree
-told : (c : tie.After-posted) → answerOf (c .posted .result) ≡ pairTests (bytes (c .before .before .before .before .before .before .before .before))
+told : (c : tie.After-posted) → answerOf (c .posted .result) ≡ pairTests (counted (c .before .before .before .before .before .before .before .before)) (bytes (c .before .before .before .before .before .before .before .before))
 told c =
     let read = c .before .before .before .before in
     let n = read .before .before .before in
-    c .posted .ensures ∙ pair-is (here (n .before)) _ _ _ _ (n .u16-at .ensures) (c .before .before .before .u16-at2 .ensures) (measured read) (parents-are (here (n .before)))
+    c .posted .ensures ∙ pair-is (here (n .before)) (counted (n .before)) _ _ _ _ (n .u16-at .ensures) (c .before .before .before .u16-at2 .ensures) (measured read) (parents-are (here (n .before)))
 
-passed : (c : tie.After-enum-told) → pairTests (bytes (c .before .before .before .before .before .before .before .before .before .before)) ≡ pass
+passed : (c : tie.After-enum-told) → pairTests (counted (c .before .before .before .before .before .before .before .before .before .before)) (bytes (c .before .before .before .before .before .before .before .before .before .before)) ≡ pass
 passed c = sym (told (c .before .before)) ∙ ap answerOf (c .enum-told .given .1)
 
 u16-at-requires : tie.Need-u16-at-requires
@@ -120,7 +123,7 @@ proposed-lengths-requires : tie.Need-proposed-lengths-requires
 proposed-lengths-requires c κs = let start = c .before .before .before .before .before .before .before .before .before .before in
     let edges = parents-count (here start) in
     let pre = start .before .pre in
-    ((pre .0, pre .1, pre .2, pre .4), (edges, omega (arith, edges, parents-few (bytes start) (passed c))))
+    ((pre .0, pre .1, pre .2, pre .4), (edges, omega (arith, edges, parents-few (counted start) (bytes start) (passed c))))
 
 enum-known-of-lengths : tie.Need-enum-known-of-lengths
 enum-known-of-lengths c = search needs

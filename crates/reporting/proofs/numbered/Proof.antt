@@ -13,7 +13,7 @@ use Rattle.matrix.proofs.Places.{pairs-few}
 use Rattle.lengths.specs.Limits.{maxDenominator}
 use Rattle.fit.proofs.Demand3.{least}
 use Rattle.pairs.proofs.Lent.{standing, ready, in-range}
-use Rattle.reporting.proofs.Numbers.{posted, edges-few, total-near, total-is, f-fits, ready-rounded, r-same, r-fits, rounded-is}
+use Rattle.reporting.proofs.Numbers.{posted, edges-few, total-near, total-is, fits-of, f-fits, h-fits, ready-rounded, r-same, r-fits, rounded-is}
 use borrow.Author.Needs.{needs}
 use Rattle.reporting.proofs.numbered.Statement.{statement}
 use Rattle.reporting.proofs.numbered.Tie as tie
@@ -47,7 +47,7 @@ copy-out-requires : tie.Need-copy-out-requires
 copy-out-requires c κs = search needs
 
 mean-over-requires : tie.Need-mean-over-requires
-mean-over-requires c κs = c .before .before .before .before .before .before .before .before .before .before .before .before .before .before .pre .0 .matrix .few
+mean-over-requires c κs = c .before .before .before .before .before .before .before .before .before .before .before .before .before .before .pre .0 .matrix
 
 same-length : tie.Need-same-length
 same-length c = search needs
@@ -62,10 +62,11 @@ returns c = let s = c .before .before .before .before .before .before .before .b
         strains = refl;
         edges = refl;
         denominator = refl;
-        total = toZ-ofZ {w = w64} {z = c .before .before .before .before .before .before .total .result} (search needs) ∙ c .before .before .before .before .before .before .total .ensures ∙ total-is _ _ _ _ _ p;
-        f = toZ-ofZ {w = w64} {z = c .before .before .before .before .before .before .before .before .before .before .sum-f .result} (search needs) ∙ c .before .before .before .before .before .before .before .before .before .before .sum-f .ensures;
-        r = toZ-ofZ {w = w64} {z = sums .sum-squares .result .r} (search needs) ∙ sums .sum-squares .ensures .0 ∙ r-same _ _ _ _ _ p _ e;
-        h = toZ-ofZ {w = w64} {z = sums .sum-squares .result .h} (search needs) ∙ sums .sum-squares .ensures .1;
+        total = toZ-ofZ {w = w64} {z = c .before .before .before .before .before .before .total .result} (fits-abs _ (omega (arith, ap natAbs (c .before .before .before .before .before .before .total .ensures ∙ total-is _ _ _ _ _ p), total-near _ _ _ _ _ p)))
+            ∙ c .before .before .before .before .before .before .total .ensures ∙ total-is _ _ _ _ _ p;
+        f = toZ-ofZ {w = w64} {z = c .before .before .before .before .before .before .before .before .before .before .sum-f .result} (fits-of _ _ (c .before .before .before .before .before .before .before .before .before .before .sum-f .ensures) (f-fits _ _ _ _ _ p)) ∙ c .before .before .before .before .before .before .before .before .before .before .sum-f .ensures;
+        r = toZ-ofZ {w = w64} {z = sums .sum-squares .result .r} (fits-of _ _ (sums .sum-squares .ensures .0) (r-fits _ _ _ _ _ p _ e)) ∙ sums .sum-squares .ensures .0 ∙ r-same _ _ _ _ _ p _ e;
+        h = toZ-ofZ {w = w64} {z = sums .sum-squares .result .h} (fits-of _ _ (sums .sum-squares .ensures .1) (h-fits _ _ _ _ _ p)) ∙ sums .sum-squares .ensures .1;
         mean = c .before .mean-over .ensures;
         rounded = rounded-is _ _ _ _ _ p _ e _ (c .before .before .before .copy-out .ensures);
         stands = p;

@@ -1,19 +1,19 @@
--- `check_direct`: the matrix with the tree first; of what passes, the degrees, then the sizes.
-use Rattle.resolving.proofs.Chosen.{first, posted, then}
+-- `check_direct`: the matrix and the tree first; of what passes, the degrees and missing pairs, then the sizes.
+use Rattle.resolving.proofs.Chosen.{first, shaped, then}
 use borrow.Author.Needs.{needs}
 use Rattle.resolving.proofs.check_direct.Statement.{statement}
 use Rattle.resolving.proofs.check_direct.Tie as tie
 
-check-posting-requires : tie.Need-check-posting-requires
-check-posting-requires c κs = search needs
+check-shapes-requires : tie.Need-check-shapes-requires
+check-shapes-requires c κs = search needs
 
-enum-known-posted : tie.Need-enum-known-posted
-enum-known-posted c = search needs
+enum-known-shaped : tie.Need-enum-known-shaped
+enum-known-shaped c = search needs
 
 returns : tie.Need-returns
 returns c = let p = c .before .before .before in
     let a = p .before .before .before .args in
-    first (a .n) (a .distances .now) (a .parents .now) (a .a) (a .b) (a .c) (p .check-posting .result) (p .check-posting .ensures) (c .before .posted .given .0 .0) (c .before .posted .given .1)
+    first (a .n) (a .distances .now) (a .parents .now) (a .a) (a .b) (a .c) (p .check-shapes .result) (p .check-shapes .ensures) (c .before .shaped .given .0 .0) (c .before .shaped .given .1)
 
 enum-told : tie.Need-enum-told
 enum-told c = search needs
@@ -21,7 +21,7 @@ enum-told c = search needs
 check-resolved-requires : tie.Need-check-resolved-requires
 check-resolved-requires c κs = let p = c .before .before in
     let a = p .before .before .before .args in
-    posted (a .n) (a .distances .now) (a .parents .now) (a .a) (a .b) (a .c) (p .check-posting .result) (p .check-posting .ensures) (c .enum-told .given .1) .tree
+    shaped (a .n) (a .distances .now) (a .parents .now) (a .a) (a .b) (a .c) (p .check-shapes .result) (p .check-shapes .ensures) (c .enum-told .given .1)
 
 check-buffers-requires : tie.Need-check-buffers-requires
 check-buffers-requires c κs = search needs
@@ -34,15 +34,15 @@ returns-2 c = let lent = c .before in
     let told = lent .before .before in
     let p = told .before .before in
     let a = p .before .before .before .args in
-    then (a .n) (a .distances .now) (a .parents .now) (a .a) (a .b) (a .c) (p .check-posting .result) (p .check-posting .ensures) (told .enum-told .given .1) (lent .before .check-resolved .result) (lent .check-buffers .result) (c .or-else .result)
+    then (a .n) (a .distances .now) (a .parents .now) (a .a) (a .b) (a .c) (p .check-shapes .result) (p .check-shapes .ensures) (told .enum-told .given .1) (lent .before .check-resolved .result) (lent .check-buffers .result) (c .or-else .result)
     (lent .before .check-resolved .ensures) (lent .check-buffers .ensures) (c .or-else .ensures)
 
 pub check-direct-spec : {M : Type 1} → statement M
 check-direct-spec =
     tie.close
     (tie.spec
-    check-posting-requires
-    enum-known-posted
+    check-shapes-requires
+    enum-known-shaped
     returns
     enum-told
     check-resolved-requires

@@ -1,42 +1,49 @@
--- `check_resolved`: the first vertex out with no children to spare is the first not of degree three.
-use mathlib.Core.Path.{_≡_, sym, _∙_}
-use mathlib.Core.List.{List}
-use Prim.Native.Nat.{ℕ, _+_, _≤_, _<_}
-use native.Mathlib.Omega.{arith}
+-- `check_resolved`: the degrees first, then whether a pair is missing.
+use mathlib.Core.Path.{sym, _∙_, ap}
+use mathlib.Core.Bool.{Bool}
+use Rattle.verdict.specs.Answer.{test}
+use Rattle.resolving.proofs.Chosen.{degrees-refused, missing-asked}
 use borrow.Author.Needs.{needs}
-use borrow.Author.Tests.{le-ltb}
-use lib.ListN.{length}
-use Rattle.verdict.specs.declared.Place.the-variants.{Vertex}
-use Rattle.verdict.specs.Answer.{fault, pass}
-use Rattle.verdict.specs.Table.{first}
-use Rattle.verdict.proofs.Answers.{at-first}
-use Rattle.trees.specs.Chain.{parentOf}
-use Rattle.trees.specs.Tests.{childrenOut}
-use Rattle.resolution.specs.Tests.{degreeTests}
-use Rattle.resolution.specs.Children.{degreeOut}
-use Rattle.resolution.proofs.Degrees.{degree-is}
 use Rattle.resolving.proofs.check_resolved.Statement.{statement}
 use Rattle.resolving.proofs.check_resolved.Tie as tie
 
--- the answer at the vertex that the code found to be the first
-module _ (N : ℕ) (ps : List ℕ) (w : ℕ) (e : w ≡ first (length ps + 1) (childrenOut 0 N (length ps) (parentOf ps))) where
-  lowest : first (length ps + 1) (degreeOut N (length ps) (parentOf ps)) ≡ w
-  lowest = sym (e ∙ degree-is N (length ps) (parentOf ps))
+check-degrees-requires : tie.Need-check-degrees-requires
+check-degrees-requires c κs = search needs
 
-  found : w ≤ length ps → fault 25 (Vertex w) ≡ degreeTests N ps
-  found l = sym (at-first (length ps + 1) (degreeOut N (length ps) (parentOf ps)) (λ v. fault 25 (Vertex v)) w (omega arith) lowest)
-
-  none : length ps < w → pass ≡ degreeTests N ps
-  none l = rw (lowest, le-ltb w (length ps + 1) (omega arith))
-
-first-children-out-requires : tie.Need-first-children-out-requires
-first-children-out-requires c κs = search needs
+enum-known-degrees : tie.Need-enum-known-degrees
+enum-known-degrees c = search needs
 
 returns : tie.Need-returns
-returns c = let f = c .before in let a = f .before .before .args in found (a .n) (a .parents .now) (f .first-children-out .result) (f .first-children-out .ensures) (c .if1 .taken)
+returns c = let d = c .before .before .before in
+    let a = d .before .before .before .args in
+    degrees-refused (a .n) (a .distances .now) (a .parents .now) (d .check-degrees .result) (d .check-degrees .ensures) (c .before .degrees .given .0 .0) (c .before .degrees .given .1)
+
+enum-told : tie.Need-enum-told
+enum-told c = search needs
+
+survey-matrix-requires : tie.Need-survey-matrix-requires
+survey-matrix-requires c κs = search needs
 
 returns-2 : tie.Need-returns-2
-returns-2 c = let f = c .before in let a = f .before .before .args in none (a .n) (a .parents .now) (f .first-children-out .result) (f .first-children-out .ensures) (c .if1 .left)
+returns-2 c = let m = c .before in
+    let d = m .before .before .before in
+    let s = d .before .before .before in
+    ap (λ (b : Bool). test 26 b) (sym (c .if1 .taken)) ∙ missing-asked (s .args .n) (s .args .distances .now) (s .args .parents .now) (d .check-degrees .result) (d .check-degrees .ensures) (m .before .enum-told .given .1) (s .pre .matrix) (m .survey-matrix .result) (m .survey-matrix .ensures)
+
+returns-3 : tie.Need-returns-3
+returns-3 c = let m = c .before in
+    let d = m .before .before .before in
+    let s = d .before .before .before in
+    ap (λ (b : Bool). test 26 b) (sym (c .if1 .left)) ∙ missing-asked (s .args .n) (s .args .distances .now) (s .args .parents .now) (d .check-degrees .result) (d .check-degrees .ensures) (m .before .enum-told .given .1) (s .pre .matrix) (m .survey-matrix .result) (m .survey-matrix .ensures)
 
 pub check-resolved-spec : {M : Type 1} → statement M
-check-resolved-spec = tie.close (tie.spec first-children-out-requires returns returns-2)
+check-resolved-spec =
+    tie.close
+    (tie.spec
+    check-degrees-requires
+    enum-known-degrees
+    returns
+    enum-told
+    survey-matrix-requires
+    returns-2
+    returns-3)

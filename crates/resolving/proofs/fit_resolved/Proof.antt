@@ -24,7 +24,7 @@ resolve-requires c κs = let told = c .before .before .before in
     let v = told .before .before in
     let a = v .before .before .before .before .args in
     let p = accepted (a .n) (a .distances .now) (a .parents .now) (a .numerators .now) (a .denominators .now) (a .rounded .now) (v .check-direct .result) (v .check-direct .ensures) (told .enum-told .given .1) in
-    (p .posted, (p .resolved, (omega (arith, p .first, p .third), p .second, omega (arith, p .first, p .third))))
+    (p .shaped, (p .resolved, (omega (arith, p .first, p .third), p .second, omega (arith, p .first, p .third))))
 
 same-length : tie.Need-same-length
 same-length c = search needs

@@ -9,7 +9,7 @@ use mir.Syntax.{w64}
 use mir.Val.{SFits}
 use Rattle.paths.specs.Standing.{Standing}
 use Rattle.pairs.proofs.Lent.{standing, few-edges}
-use Rattle.resolving.proofs.Answering.{res, direct, splits, known, tops-are, bottoms-are, ready-rounded, r-same, r-within, rounded-is}
+use Rattle.resolving.proofs.Answering.{res, posted, direct, splits, known, tops-are, bottoms-are, ready-rounded, r-same, r-within, rounded-is}
 use Rattle.resolving.proofs.resolve.Statement.{statement}
 use Rattle.resolving.proofs.resolve.Tie as tie
 
@@ -45,7 +45,7 @@ clusters-requires : tie.Need-clusters-requires
 clusters-requires c κs = search needs
 
 split-requires : tie.Need-split-requires
-split-requires c κs = let m = c .before in (given m .pre .0, stands m)
+split-requires c κs = let m = c .before in (posted (N m) (ds m) (ps m) (given m .pre .0) (given m .pre .1 .0), stands m)
 
 child-table-requires : tie.Need-child-table-requires
 child-table-requires c κs = let m = c .before .before in

@@ -4,7 +4,7 @@ use native.Mathlib.Omega.{arith}
 use Rattle.verdict.specs.Answer.{answerOf}
 use Rattle.fit.specs.Stands.{Posted}
 use Rattle.fit.specs.Tests.{proposalTests}
-use Rattle.reading.proofs.Parts.{Parts, Lengths, accepted, read-parts, read-lengths, of-lengths, to-parts}
+use Rattle.reading.proofs.Parts.{Parts, Lengths, accepted, read-parts, read-posted, read-lengths, of-lengths, to-parts}
 use Rattle.reading.proofs.Whole.{sheet-asked, refused-whole}
 use borrow.Author.Needs.{needs}
 use Rattle.sheet.proofs.sheet_judge.Statement.{statement}
@@ -51,7 +51,7 @@ slice-aggregate-judge-proposal-2 : tie.Need-slice-aggregate-judge-proposal-2
 slice-aggregate-judge-proposal-2 c = proposed (c .before .before .before .before .before) .size
 
 judge-proposal-requires : tie.Need-judge-proposal-requires
-judge-proposal-requires c κs = let h = held (c .before .before .before .before .before) in to-parts h Posted (h .posted)
+judge-proposal-requires c κs = let told = c .before .before .before .before .before in to-parts (held told) Posted (read-posted _ _ (told .before .before .read .ensures) (told .enum-told .given .1))
 
 returns-2 : tie.Need-returns-2
 returns-2 c = let told = c .before .before .before .before .before .before in

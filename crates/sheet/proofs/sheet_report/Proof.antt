@@ -3,7 +3,7 @@ use mathlib.Core.Path.{_≡_, sym, _∙_, ap}
 use native.Mathlib.Omega.{arith}
 use Rattle.verdict.specs.Answer.{answerOf}
 use Rattle.fit.specs.Stands.{Posted}
-use Rattle.reading.proofs.Parts.{Parts, Lengths, read-parts, read-lengths, to-parts}
+use Rattle.reading.proofs.Parts.{Parts, Lengths, read-parts, read-posted, read-lengths, to-parts}
 use Rattle.reading.proofs.Whole.{refused-whole}
 use Rattle.sheet.proofs.Fits.{refused-sheet, front-there, front-size, asked, fitted-sheet}
 use borrow.Author.Needs.{needs}
@@ -68,7 +68,7 @@ slice-aggregate-report-proposal-3 c = let told = c .before .before .before .befo
     front-size _ (r .read .result) (r .read .ensures) (told .enum-told .given .1) _ (c .before .before .before .before .no-lengths .ensures)
 
 report-proposal-requires : tie.Need-report-proposal-requires
-report-proposal-requires c κs = let h = held (c .before .before .before .before .before .before .before) in to-parts h Posted (h .posted)
+report-proposal-requires c κs = let told = c .before .before .before .before .before .before .before in to-parts (held told) Posted (read-posted _ _ (told .before .before .read .ensures) (told .enum-told .given .1))
 
 enum-known-found : tie.Need-enum-known-found
 enum-known-found c = search needs

@@ -4,11 +4,11 @@ use Prim.Native.Nat.{_-_, _≤_}
 use lib.IntN.{pos}
 use Rattle.verdict.specs.Answer.{answerOf}
 use Rattle.trees.specs.Limits.{maxEdges}
-use Rattle.resolution.specs.Tests.{degreeTests}
+use Rattle.resolution.specs.Tests.{directOnly}
 use Rattle.reading.proofs.Parts.{Parts}
 use Rattle.reading.proofs.Whole.{refused-two}
-use Rattle.reading.specs.Holds.{strainsOf, parentsOf}
-use Rattle.unfitted.proofs.Fits.{refused-sheet, front-there, front-size, parts, few-edges, allowed, posted, parents-size, degrees-asked, resolved, fitted-sheet}
+use Rattle.reading.specs.Holds.{strainsOf, distancesOf, parentsOf}
+use Rattle.unfitted.proofs.Fits.{refused-sheet, front-there, front-size, parts, few-edges, shaped, parents-size, degrees-asked, resolved, fitted-sheet}
 use borrow.Author.Needs.{needs}
 use Rattle.unfitted.proofs.unfitted_fit.Statement.{statement}
 use Rattle.unfitted.proofs.unfitted_fit.Tie as tie
@@ -19,11 +19,11 @@ held c = parts _ _ (c .before .before .read .ensures) (c .enum-told .given .1)
 
 -- the place behind the reader's answer, from behind the tree's
 abbrev read : tie.After-enum-told2 → tie.After-enum-told
-read c = c .before .before .before .before
+read c = c .before .before .before .before .before .before
 
 -- the place behind the tree's answer, where the three tables of zeros are there
 abbrev asked : tie.After-no-lengths2 → tie.After-enum-told2
-asked c = c .before .before .before .before
+asked c = c .before .before .before
 
 few : (c : tie.After-enum-told) → c .before .before .read .result .end - c .before .before .read .result .parents ≤ maxEdges
 few c = few-edges _ (c .before .before .read .result) (c .before .before .read .ensures) (c .enum-told .given .1)
@@ -42,22 +42,30 @@ returns c =
     let r = c .before .before .before .before in
     let q = c .before .before .of-reader .given .0 .0 in
     refused-sheet _ (c .refused .result) q (c .refused .ensures .0) (c .refused .ensures .1)
-    (refused-two _ (r .read .result) q (degreeTests (strainsOf _) (parentsOf _)) (r .read .ensures) (c .before .before .of-reader .given .1))
+    (refused-two _ (r .read .result) q (directOnly (strainsOf _) (distancesOf _) (parentsOf _)) (r .read .ensures) (c .before .before .of-reader .given .1))
 
 enum-told : tie.Need-enum-told
 enum-told c = search needs
 
+array-share-prefix-distances : tie.Need-array-share-prefix-distances
+array-share-prefix-distances c = held (c .before) .room
+
+slice-aggregate-check-resolved : tie.Need-slice-aggregate-check-resolved
+slice-aggregate-check-resolved c = held (c .before .before) .size
+
 sub-check-resolved : tie.Need-sub-check-resolved
-sub-check-resolved c = held c .starts
+sub-check-resolved c = held (c .before .before) .starts
 
 part-check-resolved-start : tie.Need-part-check-resolved-start
-part-check-resolved-start c = held c .starts
+part-check-resolved-start c = held (c .before .before) .starts
 
 part-check-resolved-end : tie.Need-part-check-resolved-end
-part-check-resolved-end c = held c .ends
+part-check-resolved-end c = held (c .before .before) .ends
 
 check-resolved-requires : tie.Need-check-resolved-requires
-check-resolved-requires c κs = let r = c .before .before .before in allowed _ (r .read .result) (r .read .ensures) (c .before .enum-told .given .1)
+check-resolved-requires c κs = let told = c .before .before .before in
+    let r = told .before .before in
+    shaped _ (r .read .result) (r .read .ensures) (told .enum-told .given .1)
 
 enum-known-of-tree : tie.Need-enum-known-of-tree
 enum-known-of-tree c = search needs
@@ -68,7 +76,7 @@ refused-requires-2 c κs = search needs
 returns-2 : tie.Need-returns-2
 returns-2 c =
     let done = c .before .before .before .before in
-    let told = done .before .before in
+    let told = done .before .before .before .before in
     let r = told .before .before in
     let q = c .before .before .of-tree .given in
     refused-sheet _ (c .refused2 .result) (q .0 .0) (c .refused2 .ensures .0) (c .refused2 .ensures .1)
@@ -89,8 +97,8 @@ no-denominators-requires c κs = search needs
 no-lengths-requires-2 : tie.Need-no-lengths-requires-2
 no-lengths-requires-2 c κs = search needs
 
-array-share-prefix-distances : tie.Need-array-share-prefix-distances
-array-share-prefix-distances c = held (read (asked c)) .room
+array-share-prefix-distances-2 : tie.Need-array-share-prefix-distances-2
+array-share-prefix-distances-2 c = held (read (asked c)) .room
 
 slice-aggregate-resolve : tie.Need-slice-aggregate-resolve
 slice-aggregate-resolve c = held (read (asked (c .before))) .size
@@ -129,7 +137,7 @@ resolve-requires c κs =
     let r = told .before .before in
     let done = asked n .before .before in
     let all = parents-size _ (r .read .result) (r .read .ensures) (told .enum-told .given .1) in (
-      posted _ (r .read .result) (r .read .ensures) (told .enum-told .given .1),
+      shaped _ (r .read .result) (r .read .ensures) (told .enum-told .given .1),
       (
         resolved _ (r .read .result) (r .read .ensures) (told .enum-told .given .1) (done .check-resolved .result) (done .check-resolved .ensures) (asked n .enum-told2 .given .1),
         (
@@ -159,6 +167,8 @@ unfitted-fit-spec =
     refused-requires
     returns
     enum-told
+    array-share-prefix-distances
+    slice-aggregate-check-resolved
     sub-check-resolved
     part-check-resolved-start
     part-check-resolved-end
@@ -171,7 +181,7 @@ unfitted-fit-spec =
     no-lengths-requires
     no-denominators-requires
     no-lengths-requires-2
-    array-share-prefix-distances
+    array-share-prefix-distances-2
     slice-aggregate-resolve
     sub-resolve
     part-resolve-start
