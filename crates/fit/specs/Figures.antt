@@ -162,7 +162,7 @@ figures =
 abbrev pub sheetA : Bool
 sheetA =
     sameList (over (pathOf parentsA numeratorsA) pairsOfFour) (pos 6 ∷ pos 13 ∷ pos 17 ∷ pos 13 ∷ pos 17 ∷ pos 10 ∷ [])
-    && sameList (over (remainderOf 4 distancesA parentsA 2 numeratorsA) pairsOfFour) (pos 0 ∷ pos 1 ∷ negsuc 0 ∷ negsuc 0 ∷ pos 1 ∷ pos 0 ∷ [])
+    && sameList (over (remainderOf distancesA parentsA 2 numeratorsA) pairsOfFour) (pos 0 ∷ pos 1 ∷ negsuc 0 ∷ negsuc 0 ∷ pos 1 ∷ pos 0 ∷ [])
     && sameList (table 5 (splitSum 4 distancesA parentsA)) (pos 18 ∷ pos 18 ∷ pos 18 ∷ pos 22 ∷ pos 30 ∷ [])
 
 -- a length n/D and its thousandths

@@ -29,8 +29,8 @@ abbrev pub pathOf : List ℕ → List ℤ → ℕ × ℕ → ℤ
 pathOf ps ns p = path (length ps) (partsOf ps) (entryOf ns) p
 
 -- r: the remainder of a measured pair; 0 for another
-abbrev pub remainderOf : ℕ → List ℕ → List ℕ → ℕ → List ℤ → ℕ × ℕ → ℤ
-remainderOf N ds ps D ns p = remainder (length ps) (partsIn ds ps) (distance ds) (pos D) (entryOf ns) p
+abbrev pub remainderOf : List ℕ → List ℕ → ℕ → List ℤ → ℕ × ℕ → ℤ
+remainderOf ds ps D ns p = remainder (length ps) (partsIn ds ps) (distance ds) (pos D) (entryOf ns) p
 
 -- edge v's sum of remainders
 abbrev pub edgeSumOf : ℕ → List ℕ → List ℕ → ℕ → List ℤ → ℕ → ℤ

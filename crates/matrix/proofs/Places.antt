@@ -83,11 +83,6 @@ row-place-onto N k h = search-row N (omega arith) (omega (arith, row-last N))
     search-row zero l b = absurd (unfold rowStart in omega arith)
     search-row (suc m) l b = by-cases (decLt k (rowStart N m)) (search-row m (omega arith)) (λ e. found m l (omega arith) (unfold rowStart in b))
 
--- one further in the row, one further on
-pub row-place-next : (N i j : ℕ) → i < j → rowPlace N i (j + 1) ≡ rowPlace N i j + 1
-unfolding rowPlace
-row-place-next N i j h = omega arith
-
 -- the most strains have 2,016 pairs
 pub pairs-few : (N : ℕ) → N ≤ maxStrains → pairCount N ≤ maxPairs
 pairs-few N h = omega (arith, mul-le-mul {n₁ = N} {m₁ = N - 1} {n₂ = 64} {m₂ = 63} h (omega arith))
