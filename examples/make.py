@@ -14,6 +14,7 @@ SHEETS = {
     "old-distances.sheet": reading.sheet(n, [4] + distances[1:], parents, denominator, numerators),
     "last-length-off.sheet": reading.sheet(n, distances, parents, denominator, numerators[:-1] + [6]),
     "negative-length.sheet": reading.sheet(3, [1, 1, 4], [3, 3, 3], 1, [-1, 2, 2]),
+    "drawn.sheet": reading.sheet(3, [1, 1, 4], [3, 3, 3], 3, [0, 5, 5]),
     "carnivores.sheet": reading.sheet(*make_figures.table_one()),
     "worked-example.sheet": reading.sheet(*make_figures.worked_example()),
     "a.unfitted": reading.bare_sheet(n, distances, parents),

@@ -1,5 +1,6 @@
 /* A small bench viewer: prints for each sheet named on the command line its name and its verdict in
- * words; with --print, or -p, its name and its whole print, which is the report or the refusal with its place.
+ * words; with --print, or -p, its name and its whole print, which is the report or the refusal with its place. With
+ * --not-negative, or -0, no length may be negative.
  * Built, on x86-64, with
  *     rt staticlib sheet
  *     rt staticlib prints
@@ -29,10 +30,15 @@ static const char *const words[] = {
     "the lengths are not the fit: for some edge observed and tree distance differ in sum",
     "a lent buffer does not have the exact length",
     "a parent is past the root",
+    [VAMUTHEXA_NEGATIVE] = "a length is negative",
+    [VAMUTHEXA_ZERO_EDGE] = "the lengths are not the fit: an edge of length zero would fit better if it were longer",
     [VAMUTHEXA_UNMEASURED] = "an edge parts no pair that was measured",
 };
 
-/* The words for a number. 17 to 25 are never given for a sheet with lengths. */
+static const char *const accepted_drawn =
+    "accepted: the lengths are the least-squares fit to this matrix on this tree among those without a negative one";
+
+/* The words for a number. 17 to 21, 24 and 25 are never given for a sheet with lengths. */
 static const char *words_for(uint32_t number) {
     return number < sizeof words / sizeof words[0] && words[number] != NULL ? words[number] : "unknown";
 }
@@ -41,7 +47,7 @@ static const char *words_for(uint32_t number) {
 enum { READ_AT_MOST = 5188 };
 
 /* The verdict on one file, or its print: 0 accepted, 1 refused, 2 not read. */
-static int show(const char *name, int whole) {
+static int show(const char *name, int whole, int drawn) {
     static unsigned char bytes[READ_AT_MOST];
     FILE *file = fopen(name, "rb");
     if (file == NULL) {
@@ -55,16 +61,16 @@ static int show(const char *name, int whole) {
         return 2;
     }
     fclose(file);
-    uint32_t number = sheet_verdict(bytes, length);
+    uint32_t number = (drawn ? sheet_verdict0 : sheet_verdict)(bytes, length);
     if (whole) {
         static uint8_t page[VAMUTHEXA_PAGE];
-        size_t written = sheet_print(bytes, length, page, sizeof page);
+        size_t written = (drawn ? sheet_print0 : sheet_print)(bytes, length, page, sizeof page);
         printf("%s:\n", name);
         fwrite(page, 1, written, stdout);
         return number != VAMUTHEXA_ACCEPTED;
     }
     if (number == VAMUTHEXA_ACCEPTED) {
-        printf("%s: %s\n", name, words[0]);
+        printf("%s: %s\n", name, drawn ? accepted_drawn : words[0]);
         return 0;
     }
     printf("%s: refused %u, %s\n", name, (unsigned)number, words_for(number));
@@ -72,15 +78,24 @@ static int show(const char *name, int whole) {
 }
 
 int main(int count, char **names) {
-    int whole = count > 1 && (strcmp(names[1], "--print") == 0 || strcmp(names[1], "-p") == 0);
-    if (count < 2 + whole) {
-        fprintf(stderr, "Usage: viewer [--print] SHEET...\nPrints the verdict on each sheet that is named; with --print, or -p,\n"
-                        "its report or its refusal with the place.\n");
+    int whole = 0, drawn = 0, first = 1;
+    for (; first < count; first++) {
+        if (strcmp(names[first], "--print") == 0 || strcmp(names[first], "-p") == 0)
+            whole = 1;
+        else if (strcmp(names[first], "--not-negative") == 0 || strcmp(names[first], "-0") == 0)
+            drawn = 1;
+        else
+            break;
+    }
+    if (first == count) {
+        fprintf(stderr, "Usage: viewer [--print] [--not-negative] SHEET...\n"
+                        "Prints the verdict on each sheet that is named; with --print, or -p, its report or its refusal with the\n"
+                        "place; with --not-negative, or -0, where no length may be negative.\n");
         return 2;
     }
     int worst = 0;
-    for (int i = 1 + whole; i < count; i++) {
-        int status = show(names[i], whole);
+    for (int i = first; i < count; i++) {
+        int status = show(names[i], whole, drawn);
         if (status > worst)
             worst = status;
     }

@@ -32,12 +32,18 @@ enum vamuthexa_number {
     VAMUTHEXA_REMAINDERS = 14,    /* some edge's sum of remainders is not zero: not the fit */
     VAMUTHEXA_BUFFER = 15,        /* a lent result buffer not of the exact length; never for a sheet */
     VAMUTHEXA_PAST_ROOT = 16,     /* a parent above V-1; of 9 and 16 the one at the lowest vertex */
+    VAMUTHEXA_NEGATIVE = 22,      /* a negative numerator; only where no length may be negative */
+    VAMUTHEXA_ZERO_EDGE = 23,     /* likewise, an edge of length zero whose sum is positive: a longer one would fit better */
     VAMUTHEXA_UNRESOLVED = 25,    /* some inner vertex not of degree three; never for a sheet with lengths */
     VAMUTHEXA_UNMEASURED = 26     /* an edge that parts no measured pair; for the direct fit, any missing pair */
 };
 
 /* The number of the sheet in the bytes at `sheet`; `length` may be 0. */
 uint32_t sheet_verdict(const uint8_t *sheet, size_t length);
+
+/* The same where no length may be negative: the lengths are the best fit among those that are zero or more. Then the
+ * numbers 22 and 23 are given too, and 14 is asked of edges with a positive length only. */
+uint32_t sheet_verdict0(const uint8_t *sheet, size_t length);
 
 /* The bytes of a page. Every print fits one. */
 enum { VAMUTHEXA_PAGE = 16384 };
@@ -48,6 +54,9 @@ enum { VAMUTHEXA_PAGE = 16384 };
  * are lent at `text`, is below VAMUTHEXA_PAGE, it writes nothing and returns 0. The two buffers may not overlap. Link
  * with libprints.a. */
 size_t sheet_print(const uint8_t *sheet, size_t length, uint8_t *text, size_t size);
+
+/* The same where no length may be negative, as the program `report0` prints it. */
+size_t sheet_print0(const uint8_t *sheet, size_t length, uint8_t *text, size_t size);
 
 /* The same for a sheet without lengths, as the program `resolved` prints it. */
 size_t unfitted_print(const uint8_t *sheet, size_t length, uint8_t *text, size_t size);

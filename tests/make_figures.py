@@ -4,6 +4,7 @@ that are not starred, with both sides of each limit; sheets with several faults,
 each a damaged twin; a fit with the ties of RULES, The numbers of a fit, over several denominators; the worked example of Bryant and Waddell (1998) and the data of Felsenstein's (1997) Table 1;
 for matrices with missing pairs fits of the exact solver, two of a matrix and a tree that have more than one, damaged
 twins, and edges that part no measured pair;
+for the second verdict the best lengths of zero or more by the exact solver, with every number behind 13 and its order;
 and for the direct fit every resolved tree of up to six strains, random ones, caterpillars and balanced ones up
 to 64, with the exact solver's lengths, and sheets without lengths that are refused.
 What must be printed comes from the plain reading (reading.py) and the solver (solver.py) alone.
@@ -475,6 +476,245 @@ def incomplete_sheets():
     return out, drawn
 
 
+# ---- the second verdict: lengths of zero or more
+def bent(n, parents, distances, v, size):
+    """The distances moved so that the sum of edge v over D = 1 grows by twice the size and no other moves: two strains
+    below it, or the strain itself, and two that are not below, all behind different edges from an end of edge v.
+    Nothing where a distance is missing or would leave its range."""
+    below = reading.clusters(n, parents)
+    place = {p: k for k, p in enumerate(reading.pairs_of(n))}
+    at = lambda a, b: place[(min(a, b), max(a, b))]
+    here = [min(below[w]) for w in range(len(parents)) if parents[w] == v][:2] or [v]
+    up = parents[v]
+    there = [min(below[w]) for w in range(len(parents)) if parents[w] == up and w != v]
+    if up < len(parents):
+        there.append(min(set(range(n)) - below[up]))
+    c, d = there[:2]
+    if len(here) == 1:
+        changed = {at(v, c): size, at(v, d): size, at(c, d): -size}
+    else:
+        a, b = here
+        changed = {at(a, c): size, at(b, d): size, at(a, b): -size, at(c, d): -size}
+    out = list(distances)
+    for k, x in changed.items():
+        if out[k] == MISSING or not 0 <= out[k] + x <= 50000:
+            return None
+        out[k] += x
+    return out
+
+
+def bent_sheet(n, parents, numerators, bends, gone=()):
+    """A sheet over D = 1 with these numerators whose sum at each edge is twice what `bends` has there; the pairs `gone`
+    are missing."""
+    distances = whole_paths(n, parents, numerators)
+    distances = [MISSING if k in gone else d for k, d in enumerate(distances)]
+    for v, size in bends.items():
+        distances = distances and bent(n, parents, distances, v, size)
+    if distances is None:
+        return None
+    fields = n, distances, parents, 1, list(numerators)
+    assert reading.edge_sums(*fields) == [2 * bends.get(v, 0) for v in range(len(parents))]
+    return fields
+
+
+class Drawable:
+    """Matrices and trees with the best lengths of zero or more: the fields of each, the plain lengths where the plain
+    fit is the only one, and the edges' sums. `tried` counts those that every choice of zero edges was tried of, and
+    `far` those beyond the limits of a proposal."""
+
+    def __init__(self, rng):
+        self.fitted, self.tried, self.far = [], 0, 0
+        while len(self.fitted) < 205:  # any distances at all, some missing
+            n = rng.choice((3, 4, 4, 4, 4, 5, 5, 5, 6) if len(self.fitted) < 198 else (7, 8, 9, 10))
+            shape = rng.choice((star(n), grown(n, rng, 2), grown(n, rng, 2), grown(n, rng, 3)))
+            most = rng.choice((1, 2, 3, 9, 60, 50000))
+            distances = [rng.randint(0, most) for _ in reading.pairs_of(n)]
+            self.take(n, lost(n, distances, rng) if rng.random() < 0.3 else distances, table_of(shape, n))
+        for n in (6, 7, 8, 9, 12, 20):  # chosen lengths, some zero, with sums at the zero edges that are zero or below
+            parents = table_of(grown(n, rng, 2), n)
+            fields = None
+            while fields is None:
+                held = lambda v: rng.random() < (0.2 if v < n else 0.5)
+                numerators = [0 if held(v) else rng.randint(20, 90) for v in range(len(parents))]
+                zero = [v for v, x in enumerate(numerators) if x == 0]
+                fields = bent_sheet(n, parents, numerators, {v: -rng.choice((0, rng.randint(1, 9))) for v in zero})
+            self.take(*fields[:3])
+            assert self.fitted[-1][0] == fields
+        # RULES, Bench figures: two plain fits with negative lengths, and one whose lengths are all zero
+        for distances in ([1, 1, 4], [1, 0, 0, 0, 0, 0], [0, 0, 0]):
+            n = 3 if len(distances) == 3 else 4
+            self.take(n, distances, [n] * n)
+
+    def take(self, n, distances, parents):
+        if reading.seen_answer(n, distances, parents):
+            return
+        solved = solver.Drawable(n, distances, parents)
+        lengths = solved.fit()
+        denominator, numerators = solver.common(lengths)
+        if not within(denominator, numerators):
+            self.far += 1
+            return
+        fields = n, distances, parents, denominator, numerators
+        if len(parents) <= 7:
+            self.tried += 1
+            best = solved.by_trying()
+            assert solved.squares(best) == solved.squares(lengths) and (MISSING in distances or best == lengths)
+        # a plain fit that is the only one is this one, or has a negative length and a smaller sum of squares
+        plain = solver.Measured(n, distances, parents)
+        only = None if plain.free else plain.fit(None)
+        if only is not None:
+            assert plain.squares(only) < solved.squares(lengths) if min(only) < 0 else only == lengths
+        # both readings of the model agree
+        sums = reading.edge_sums(*fields)
+        assert sums == [denominator * x for x in solved.sums(lengths)]
+        assert Fraction(reading.Report(*fields).f, denominator) == solved.squares(lengths)
+        assert reading.judge(*fields, reading.DRAWABLE) == reading.PASS
+        self.fitted.append((fields, only, sums))
+
+    def negative(self):
+        """Those whose plain fit is the only one and has a negative length."""
+        return [x for x in self.fitted if x[1] is not None and min(x[1]) < 0]
+
+    def same(self):
+        """Those whose plain fit is the only one and has no negative length."""
+        return [x for x in self.fitted if x[1] is not None and min(x[1]) >= 0]
+
+
+def zero_edges(fitted, test):
+    """How many edges have length zero and such a sum, and how many of the sheets have one."""
+    found = [sum(1 for x, at in zip(fields[4], sums) if x == 0 and test(at)) for fields, _, sums in fitted]
+    return sum(found), sum(1 for x in found if x)
+
+
+def drawable_twins(drawn, rng):
+    """Sheets for the second verdict, each with the number that is due, or none where it is not foreseen."""
+    n, distances, parents, d, numerators = A
+    whole = reading.sheet(*A)
+    # as the plain verdict up to 13
+    yield b"", 2
+    yield whole[:40], 2
+    yield whole[:4] + b"\2" + whole[5:], 3
+    yield whole[:45] + b"\4" + whole[46:], 4
+    yield whole + b"\0", 5
+    yield reading.sheet(2, [1], [2, 2], 1, [1, 0]), 6
+    yield reading.sheet(n, [50001] + distances[1:], parents, d, numerators), 7
+    for table, number in (([4] * 3, 8), ([4, 3, 5, 6, 5], 9), ([4, 6, 5, 3, 5], 16), ([5, 4, 5, 5, 5], 10)):
+        yield reading.sheet(n, distances, table, d, numerators), number
+    yield reading.sheet(n, distances, parents, d, numerators[:4]), 11
+    yield reading.sheet(n, distances, parents, 0, numerators), 12
+    # 26 before 11 and 22; 13 before 22 whatever edges they are at; 22 before 14 and 23
+    for gone in ([MISSING] * 6, [3] + [MISSING] * 5, [MISSING] * 3 + [6, 9, 5]):
+        yield reading.sheet(n, gone, parents, d, numerators[:4]), 26
+        yield reading.sheet(n, gone, parents, d, numerators[:4] + [-1]), 26
+    far = 10 ** 11
+    for changed, number in (({0: -1, 4: -far - 1}, 13), ({0: -1, 4: far + 1}, 13), ({4: -far}, 22),
+                            ({1: -2, 3: -1}, 22), ({4: -1}, 22), ({0: 0, 4: -7}, 22), ({0: -3, 1: 0}, 22), ({0: 0}, 14),
+                            (dict.fromkeys(range(5), 0), 23)):
+        yield reading.sheet(n, distances, parents, d, [changed.get(v, x) for v, x in enumerate(numerators)]), number
+    # the largest sums of six strains
+    parents = table_of(caterpillar(6), 6)
+    yield reading.sheet(6, [50000] * 15, parents, 1000000, [0] * 9), 23
+    yield reading.sheet(6, [0] * 15, parents, 1000000, [0] * 8 + [far]), 14
+    # chosen sums at the edges of tables with zero edges
+    tables = [(4, [4, 4, 5, 5, 5], [50, 0, 40, 30, 0]), (4, [4, 4, 5, 5, 5], [0, 20, 60, 30, 0]),
+              (5, [5, 5, 6, 6, 7, 7, 7], [30, 40, 0, 35, 0, 0, 25]), (5, [5, 5, 5, 6, 6, 6], [0, 40, 40, 50, 20, 0])]
+    for n, parents, numerators in tables:
+        zero, positive = [[v for v, x in enumerate(numerators) if (x == 0) == at_zero] for at_zero in (True, False)]
+        low, high = zero[0], positive[-1]
+        for bends, number in (({}, 0), ({low: -3}, 0), (dict.fromkeys(zero, -1), 0), ({positive[0]: -2}, 14),
+                              ({high: 2}, 14), ({low: 1}, 23), ({zero[-1]: 4}, 23), ({low: -2, zero[-1]: 1}, 23),
+                              (dict.fromkeys(zero, 2), 23), ({low: 3, high: -1}, 14), ({low: 3, high: 1}, 14),
+                              ({low: -3, high: 1}, 14)):
+            yield reading.sheet(*bent_sheet(n, parents, numerators, bends)), number
+    for bends, number in (({}, 0), ({2: -3}, 0), ({2: -1, 4: -1}, 0), ({0: 1}, 14), ({0: -1, 2: 1}, 14), ({2: 2}, 23),
+                          ({2: -1, 4: 1}, 23)):
+        yield reading.sheet(*bent_sheet(*tables[2], bends, gone=(6,))), number
+    # a plain fit with negative lengths as it is, and with those lifted to zero: the other edges are then out of balance
+    for fields, only, _ in rng.sample([x for x in drawn.negative() if MISSING not in x[0][1]], 16):
+        denominator, numerators = solver.common(only)
+        assert within(denominator, numerators) and max(numerators) > 0
+        yield reading.sheet(*fields[:3], denominator, numerators), 22
+        yield reading.sheet(*fields[:3], denominator, [max(0, x) for x in numerators]), 14
+    # fits with one numerator off by one
+    for fields, _, _ in rng.sample(drawn.fitted, 24):
+        at, change = rng.randrange(len(fields[2])), rng.choice((-1, 1))
+        yield reading.sheet(*fields[:4], [x + change * (v == at) for v, x in enumerate(fields[4])]), None
+
+
+class Second:
+    """The sheets that are judged by the second verdict and their prints; `again` has those that the plain one judges
+    too, with its prints."""
+
+    def __init__(self):
+        rng = random.Random(707)
+        self.drawn = drawn = Drawable(rng)
+        same = [A, (*A[:3], 4, [6, 6, 6, 14, 14])] + [fields for fields, _, _ in drawn.same()[:18]]
+        lower = [fields for fields, _, _ in drawn.negative()[:8]]
+        self.again = [reading.sheet(*fields) for fields in same + lower]
+        self.again_prints = [reading.print_of(s) for s in self.again]
+        twins = list(drawable_twins(drawn, rng))
+        self.sheets = [reading.sheet(*fields) for fields in same[:2] + [fields for fields, _, _ in drawn.fitted]]
+        self.sheets += [s for s, _ in twins]
+        self.prints = [reading.print_of(s, reading.DRAWABLE) for s in self.sheets]
+        for (_, number), lines in zip(twins, self.prints[-len(twins):]):
+            due = "refused %d " % number if number else "fit0 " if number == 0 else ""
+            assert (lines[0] + " ").startswith(due), (due, lines)
+        # any table is accepted exactly where no length is negative and its sum of squares is the solver's
+        self.solved = 0
+        for s, lines in zip(self.sheets, self.prints):
+            if lines[0].startswith(("fit0 ", "refused 14 ", "refused 22 ", "refused 23 ")):
+                n, distances, _, parents, denominator, numerators = reading.read_sheet(s)[1]
+                solved = solver.Drawable(n, distances, parents)
+                squares = solved.squares([Fraction(x, denominator) for x in numerators])
+                best = min(numerators) >= 0 and squares == solved.squares(solved.fit())
+                assert best == lines[0].startswith("fit0 ")
+                self.solved += 1
+        # both verdicts print the same of a table that both accept, but for the first word; the plain one refuses a
+        # table that is the best only of those without a negative length
+        by_sheet = dict(zip(self.sheets, self.prints))
+        for s, lines in zip(self.again, self.again_prints):
+            there = by_sheet[s]
+            assert there[0].startswith("fit0 ")
+            assert lines[0].startswith("refused 14 ") or [lines[0].replace("fit ", "fit0 ")] + lines[1:] == there
+        assert [lines[0].startswith("fit ") for lines in self.again_prints] == [True] * len(same) + [False] * len(lower)
+
+    def told(self):
+        """What the summary says; each count has the least that it may be."""
+        drawn = self.drawn
+        answers = [reading.sheet_answer(s, reading.DRAWABLE) for s in self.sheets]
+        off = [(s, answer) for s, answer in zip(self.sheets, answers) if reading.number_of(answer) == 14]
+        before = 0  # 14 where a lower edge of length zero has a positive sum
+        for s, (_, _, at, _) in off:
+            n, distances, _, *rest = reading.read_sheet(s)[1]
+            sums = reading.edge_sums(n, distances, *rest)
+            before += any(x == 0 and found > 0 for x, found in zip(rest[2][:at], sums))
+        is_zero = lambda found: found == 0
+        level = zero_edges(drawn.fitted, is_zero)
+        counts = [
+            ("accepted", sum(1 for answer in answers if not answer), 200),
+            ("22", sum(1 for answer in answers if reading.number_of(answer) == 22), 20),
+            ("14 with a positive sum", sum(1 for _, answer in off if answer[3] > 0), 10),
+            ("14 with a negative sum", sum(1 for _, answer in off if answer[3] < 0), 20),
+            ("14 before 23 at a lower edge", before, 6),
+            ("23", sum(1 for answer in answers if reading.number_of(answer) == 23), 15),
+            ("26", sum(1 for answer in answers if reading.number_of(answer) == 26), 6),
+            ("judged by the solver's sum of squares too", self.solved, 300),
+            ("fits of the solver", len(drawn.fitted), 200),
+            ("tried in every way", drawn.tried, 120),
+            ("with a negative length in the plain fit", len(drawn.negative()), 60),
+            ("with missing pairs", sum(1 for x in drawn.fitted if MISSING in x[0][1]), 30),
+            ("edges of length zero with sum zero", level[0], 50),
+            ("sheets with one", level[1], 30),
+            ("of these with a negative length in the plain fit", zero_edges(drawn.negative(), is_zero)[1], 12),
+            ("edges of length zero with a negative sum", zero_edges(drawn.fitted, lambda found: found < 0)[0], 100),
+            ("by both verdicts", len(self.again), 25),
+        ]
+        for what, count, least in counts:
+            assert count >= least, (what, count, least)
+        return "%d by the second verdict; %s; %d more beyond the limits" % (
+            len(self.sheets), ", ".join("%s: %d" % (what, count) for what, count, _ in counts), drawn.far)
+
+
 def show_example():
     """The example with two fits and more, in words."""
     for fields in TWO_FITS:
@@ -599,22 +839,27 @@ def main():
     made = whole + gone
     bare = unfitted()
     led = lambda kind, s: struct.pack("<I", len(s) | kind << 24) + s
-    stdin = b"".join(led(0, s) for s in made) + b"".join(led(1, s) for s in bare)
+    second = Second()
+    given = (0, made), (1, bare), (2, second.sheets), (0, second.again)
+    stdin = b"".join(led(kind, s) for kind, some in given for s in some)
     judged, resolved = [reading.print_of(s) for s in made], [reading.resolved_print(s, solver.solve) for s in bare]
     assert all(ties(judged)) and all(ties(resolved))
-    stdout = "".join(" ".join(lines) + "\n" for lines in judged + resolved).encode()
+    due = judged + resolved + second.prints + second.again_prints
+    stdout = "".join(" ".join(lines) + "\n" for lines in due).encode()
     files = {"stdin": stdin, "stdout": stdout}
     assert len(stdin) <= 524288  # what the program reads
+    accepted = sum(1 for lines in judged if lines[0].startswith("fit "))
     of_gone = judged[len(whole):]
     told = ("%d with missing pairs: %d accepted, %d are 14, %d are 26, %d are 7; %d matrices drawn and fitted, %d of them with N above 12, "
             "%d with two different fits of one sum of squares; %d more beyond the limits") % (
         len(gone), *(sum(1 for lines in of_gone if lines[0].startswith(lead)) for lead in ("fit ", "refused 14 ", "refused 26 ", "refused 7")),
         len(drawn.fitted), sum(1 for x in drawn.fitted if x[0][0] > 12), drawn.several(), drawn.far)
+    told += "\n" + second.told()
     assert all(lines[-1] == "mean none" for s, lines in zip(gone, of_gone) if lines[0].startswith("fit ") and MISSING in reading.read_sheet(s)[1][1])
     if "--check" in sys.argv:
         print(told)
         same = all(open(os.path.join(CRATE, name), "rb").read() == data for name, data in files.items())
-        print("%d sheets, %d accepted; %d without lengths, %d resolved: %s" % (len(made), stdout.count(b"fit "), len(bare),
+        print("%d sheets, %d accepted; %d without lengths, %d resolved: %s" % (len(made), accepted, len(bare),
               stdout.count(b"resolved "), "as made" if same else "NOT as made"))
         return 0 if same else 1
     os.makedirs(CRATE, exist_ok=True)
@@ -622,7 +867,7 @@ def main():
         with open(os.path.join(CRATE, name), "wb") as file:
             file.write(data)
     print(told)
-    print("%d sheets, %d accepted, %d without lengths, %d resolved, ties %s and %s, numbers %s" % (len(made), stdout.count(b"fit "),
+    print("%d sheets, %d accepted, %d without lengths, %d resolved, ties %s and %s, numbers %s" % (len(made), accepted,
           len(bare), stdout.count(b"resolved "), ties(judged), ties(resolved),
           sorted({int(line.split()[1]) for line in stdout.decode().splitlines() if line.startswith("refused")})))
     return 0

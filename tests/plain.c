@@ -19,7 +19,7 @@ struct sheet {
     const uint8_t *distances, *parents, *numerators;
 };
 
-/* Where the fault is; no word where the number has no place, and a sum for 14 alone. */
+/* Where the fault is; no word where the number has no place, and a sum that is zero where it has none. */
 struct place {
     const char *word;
     size_t at;
@@ -172,7 +172,8 @@ static uint32_t triple_unseen(const struct sheet *s, const uint16_t d[], const u
     return 0;
 }
 
-static uint32_t triple(struct sheet s, const uint16_t d[], const uint8_t parent[], const int64_t n[], struct place *place) {
+/* Each edge's sum of remainders: every edge is asked for every pair. */
+static void triple(struct sheet s, const uint16_t d[], const uint8_t parent[], const int64_t n[], int64_t sums[]) {
     static uint8_t below[MAX_V][MAX_N];
     fill_below(&s, parent, below);
     static int64_t remainder[MAX_N * MAX_N];
@@ -198,12 +199,8 @@ static uint32_t triple(struct sheet s, const uint16_t d[], const uint8_t parent[
                 }
             }
         }
-        if (sum != 0) {
-            place->sum = (int64_t)sum;
-            return refuse(14, place, "edge", v);
-        }
+        sums[v] = (int64_t)sum;
     }
-    return 0;
 }
 
 /* 26: every measured pair walks from both ends to where its path turns; the lowest edge that none took. A complete matrix
@@ -235,7 +232,8 @@ static uint32_t pass_unseen(const struct sheet *s, const uint16_t d[], const uin
     return 0;
 }
 
-static uint32_t pass(struct sheet s, const uint16_t d[], const uint8_t parent[], const int64_t n[], struct place *place) {
+/* Each edge's sum of remainders: each pair is met once. */
+static void pass(struct sheet s, const uint16_t d[], const uint8_t parent[], const int64_t n[], int64_t sums[]) {
     /* the strains below each vertex so far, as a list; each strain's way up to the vertex that it is listed at */
     uint8_t list[MAX_V][MAX_N], count[MAX_V] = {0};
     int64_t way[MAX_N] = {0}, sum[MAX_V] = {0}, across[MAX_V] = {0};
@@ -262,52 +260,97 @@ static uint32_t pass(struct sheet s, const uint16_t d[], const uint8_t parent[],
     }
     /* an outer edge has its strain's row; an inner one its children's sums, less twice what met there */
     for (uint32_t v = 0; v < s.k; v++) {
-        int64_t own = sum[v] - 2 * across[v];
-        if (own != 0) {
-            place->sum = own;
+        sums[v] = sum[v] - 2 * across[v];
+        sum[parent[v]] += sums[v];
+    }
+}
+
+/* 22, 14 and 23, each over all edges before the next; by the plain rule 14 alone, whatever the lengths are. */
+static uint32_t balance(enum plain_rule rule, uint32_t edges, const int64_t n[], const int64_t sums[],
+                        struct place *place) {
+    for (uint32_t v = 0; v < edges && rule == DRAWABLE; v++) {
+        if (n[v] < 0) {
+            return refuse(22, place, "edge", v);
+        }
+    }
+    for (uint32_t v = 0; v < edges; v++) {
+        if ((rule == PLAIN || n[v] > 0) && sums[v] != 0) {
+            place->sum = sums[v];
             return refuse(14, place, "edge", v);
         }
-        sum[parent[v]] += own;
+    }
+    for (uint32_t v = 0; v < edges && rule == DRAWABLE; v++) {
+        if (n[v] == 0 && sums[v] > 0) {
+            place->sum = sums[v];
+            return refuse(23, place, "edge", v);
+        }
     }
     return 0;
 }
 
 typedef uint32_t unseen_of(const struct sheet *, const uint16_t[], const uint8_t[], struct place *);
-typedef uint32_t equations_of(struct sheet, const uint16_t[], const uint8_t[], const int64_t[], struct place *);
+typedef void sums_of(struct sheet, const uint16_t[], const uint8_t[], const int64_t[], int64_t[]);
 
-/* 1 to 10 and 16, the edges that part no measured pair, 11 to 13, then the equations. */
-static uint32_t verdict(const uint8_t *bytes, size_t length, unseen_of *unseen, equations_of *equations, struct place *place) {
-    struct sheet s;
+/* 1 to 10 and 16, the edges that part no measured pair, 11 to 13; then fills the lengths and the sums. */
+static uint32_t weigh(const uint8_t *bytes, size_t length, unseen_of *unseen, sums_of *sums_by, struct sheet *s,
+                      int64_t n[], int64_t sums[], struct place *place) {
     uint16_t d[MAX_N * MAX_N];
     uint8_t parent[MAX_V];
-    int64_t n[MAX_V];
-    uint32_t number = read_form(3, bytes, length, &s, place);
+    uint32_t number = read_form(3, bytes, length, s, place);
     if (number == 0) {
-        number = read_front(&s, d, parent, place);
+        number = read_front(s, d, parent, place);
     }
     if (number == 0) {
-        number = unseen(&s, d, parent, place);
+        number = unseen(s, d, parent, place);
     }
     if (number == 0) {
-        number = read_lengths(&s, n, place);
+        number = read_lengths(s, n, place);
     }
-    return number != 0 ? number : equations(s, d, parent, n, place);
+    if (number == 0) {
+        sums_by(*s, d, parent, n, sums);
+    }
+    return number;
+}
+
+static uint32_t verdict(enum plain_rule rule, const uint8_t *bytes, size_t length, unseen_of *unseen, sums_of *sums_by,
+                        struct place *place) {
+    struct sheet s;
+    int64_t n[MAX_V], sums[MAX_V];
+    uint32_t number = weigh(bytes, length, unseen, sums_by, &s, n, sums, place);
+    return number != 0 ? number : balance(rule, s.k, n, sums, place);
 }
 
 uint32_t plain_triple(const uint8_t *bytes, size_t length) {
     struct place place = {0};
-    return verdict(bytes, length, triple_unseen, triple, &place);
+    return verdict(PLAIN, bytes, length, triple_unseen, triple, &place);
 }
 
 uint32_t plain_pass(const uint8_t *bytes, size_t length) {
     struct place place = {0};
-    return verdict(bytes, length, pass_unseen, pass, &place);
+    return verdict(PLAIN, bytes, length, pass_unseen, pass, &place);
+}
+
+struct plain_zeros plain_zeros(const uint8_t *bytes, size_t length) {
+    struct plain_zeros zeros = {0};
+    struct place place = {0};
+    struct sheet s;
+    int64_t n[MAX_V], sums[MAX_V];
+    if (weigh(bytes, length, pass_unseen, pass, &s, n, sums, &place) == 0) {
+        for (uint32_t v = 0; v < s.k; v++) {
+            if (n[v] == 0 && sums[v] > 0 && zeros.above++ == 0) {
+                zeros.lowest_above = v;
+            }
+            zeros.below += n[v] == 0 && sums[v] < 0;
+            zeros.level += n[v] == 0 && sums[v] == 0;
+        }
+    }
+    return zeros;
 }
 
 static uint32_t write_line(uint32_t number, const struct place *place, char line[PLAIN_LINE]) {
     line[0] = 0;
-    if (number == 14) {
-        snprintf(line, PLAIN_LINE, "refused 14 edge %zu %" PRId64 "\n", place->at, place->sum);
+    if (number != 0 && place->sum != 0) {
+        snprintf(line, PLAIN_LINE, "refused %u edge %zu %" PRId64 "\n", (unsigned)number, place->at, place->sum);
     } else if (number != 0 && place->word != NULL) {
         snprintf(line, PLAIN_LINE, "refused %u %s %zu\n", (unsigned)number, place->word, place->at);
     } else if (number != 0) {
@@ -316,15 +359,15 @@ static uint32_t write_line(uint32_t number, const struct place *place, char line
     return number;
 }
 
-uint32_t plain_triple_line(const uint8_t *bytes, size_t length, char line[PLAIN_LINE]) {
+uint32_t plain_triple_line(enum plain_rule rule, const uint8_t *bytes, size_t length, char line[PLAIN_LINE]) {
     struct place place = {0};
-    uint32_t number = verdict(bytes, length, triple_unseen, triple, &place);
+    uint32_t number = verdict(rule, bytes, length, triple_unseen, triple, &place);
     return write_line(number, &place, line);
 }
 
-uint32_t plain_pass_line(const uint8_t *bytes, size_t length, char line[PLAIN_LINE]) {
+uint32_t plain_pass_line(enum plain_rule rule, const uint8_t *bytes, size_t length, char line[PLAIN_LINE]) {
     struct place place = {0};
-    uint32_t number = verdict(bytes, length, pass_unseen, pass, &place);
+    uint32_t number = verdict(rule, bytes, length, pass_unseen, pass, &place);
     return write_line(number, &place, line);
 }
 

@@ -6,18 +6,28 @@
 #include <stddef.h>
 #include <stdint.h>
 
-/* The triple loop: every edge is asked for every pair, in 128-bit sums. */
+/* The verdict that takes lengths of either sign, and the one for trees that are drawn, which takes none below zero. */
+enum plain_rule { PLAIN, DRAWABLE };
+
+/* The triple loop: every edge is asked for every pair, in 128-bit sums. By the plain rule. */
 uint32_t plain_triple(const uint8_t *sheet, size_t length);
 
-/* One pass: each pair is met once, at the vertex where its path turns; sums are handed up the tree. */
+/* One pass: each pair is met once, at the vertex where its path turns; sums are handed up the tree. Likewise. */
 uint32_t plain_pass(const uint8_t *sheet, size_t length);
 
-/* The same, with the line that a refused sheet prints; of an accepted one the line is empty. */
+/* The same by either rule, with the line that a refused sheet prints; of an accepted one the line is empty. */
 enum { PLAIN_LINE = 80 };
-uint32_t plain_triple_line(const uint8_t *sheet, size_t length, char line[PLAIN_LINE]);
-uint32_t plain_pass_line(const uint8_t *sheet, size_t length, char line[PLAIN_LINE]);
+uint32_t plain_triple_line(enum plain_rule rule, const uint8_t *sheet, size_t length, char line[PLAIN_LINE]);
+uint32_t plain_pass_line(enum plain_rule rule, const uint8_t *sheet, size_t length, char line[PLAIN_LINE]);
 
-/* The same of a sheet without lengths, that is to be fitted directly. */
+/* How many edges of length zero have a sum of remainders below zero, at zero and above it, and the lowest of the last;
+ * all zero of a sheet that does not pass 13. */
+struct plain_zeros {
+    uint32_t below, level, above, lowest_above;
+};
+struct plain_zeros plain_zeros(const uint8_t *sheet, size_t length);
+
+/* The number and the line of a sheet without lengths, that is to be fitted directly. */
 uint32_t plain_unfitted_line(const uint8_t *sheet, size_t length, char line[PLAIN_LINE]);
 
 #endif

@@ -2,6 +2,7 @@
 over all pairs, every edge is asked for every pair, and numbers are Python's whole numbers."""
 import math
 import struct
+from collections import namedtuple
 from fractions import Fraction
 
 MAX_SHEET = 5187
@@ -110,14 +111,25 @@ def split_sums(n, distances, parents):
     return edge_sums(n, distances, parents, 1, [0] * len(parents))
 
 
-def judge(n, distances, parents, denominator, numerators):
+# ---- the two verdicts: the first word of an accepted sheet's report, and the tests behind 13. Each test is made over
+# all edges before the next; it has its number, whether its place has the sum, and what numerators and sums it refuses.
+Rule = namedtuple("Rule", "word tests")
+PLAIN = Rule("fit", ((14, True, lambda x, found: found != 0),))
+DRAWABLE = Rule("fit0", ((22, False, lambda x, found: x < 0),
+                         (14, True, lambda x, found: x > 0 and found != 0),
+                         (23, True, lambda x, found: x == 0 and found > 0)))
+
+
+def judge(n, distances, parents, denominator, numerators, rule=PLAIN):
     answer = (matrix_answer(n, distances) or tree_answer(n, parents) or seen_answer(n, distances, parents)
               or lengths_answer(len(parents), denominator, numerators))
     if answer:
         return answer
-    for v, found in enumerate(edge_sums(n, distances, parents, denominator, numerators)):
-        if found:
-            return 14, "edge", v, found
+    sums = edge_sums(n, distances, parents, denominator, numerators)
+    for number, with_sum, at_fault in rule.tests:
+        for v, (x, found) in enumerate(zip(numerators, sums)):
+            if at_fault(x, found):
+                return (number, "edge", v, found) if with_sum else (number, "edge", v)
     return PASS
 
 
@@ -149,8 +161,8 @@ class Report:
         spare = len(distances) - len(parents)
         self.mean = "%d %d" % (self.f, denominator * spare) if spare > 0 and len(measured) == len(distances) else "none"
 
-    def lines(self):
-        out = ["fit %d %d %d" % (self.n, self.edges, self.denominator)]
+    def lines(self, rule=PLAIN):
+        out = ["%s %d %d %d" % (rule.word, self.n, self.edges, self.denominator)]
         out += ["edge %d %d %d" % (v, x, m) for v, (x, m) in enumerate(zip(self.numerators, self.rounded))]
         out += ["length %d" % self.length, "square %d %d %d" % (self.f, self.r, self.h), "mean " + self.mean]
         return out
@@ -227,7 +239,7 @@ def read_sheet(data):
     return PASS, (*read_front(first, second), denominator, numerators)
 
 
-def sheet_answer(data):
+def sheet_answer(data, rule=PLAIN):
     answer, fields = read_sheet(data)
     if answer:
         return answer
@@ -237,20 +249,20 @@ def sheet_answer(data):
         return answer
     if tree_n != n:
         return (8,)
-    return judge(n, distances, parents, denominator, numerators)
+    return judge(n, distances, parents, denominator, numerators, rule)
 
 
 def sheet_number(data):
     return number_of(sheet_answer(data))
 
 
-def print_of(data):
-    """The lines that the report program prints."""
-    answer = sheet_answer(data)
+def print_of(data, rule=PLAIN):
+    """The lines that the program prints which judges by this rule."""
+    answer = sheet_answer(data, rule)
     if answer:
         return [refused_line(answer)]
     n, distances, _, parents, denominator, numerators = read_sheet(data)[1]
-    return Report(n, distances, parents, denominator, numerators).lines()
+    return Report(n, distances, parents, denominator, numerators).lines(rule)
 
 
 # ---- sheets without lengths

@@ -1,7 +1,8 @@
 """An exact least-squares solver: the lengths of a tree's edges that fit a matrix best, as fractions. The
 normal equations are solved modulo a large prime, the fractions read back, and the equations then checked
 exactly. For matrices with missing pairs, where a fit need not be the only one, the normal equations over the measured
-pairs are eliminated in fractions. It knows the model (Bryant and Waddell 1998, equation 22) and nothing of the crates."""
+pairs are eliminated in fractions. The best lengths of zero or more are found by active sets, in fractions too. It knows
+the model (Bryant and Waddell 1998, equation 22) and nothing of the crates."""
 import math
 from fractions import Fraction
 
@@ -57,22 +58,33 @@ def solve_sums(n, parents, wanted):
     return lengths
 
 
+def ways_of(n, distances, parents):
+    """For each measured pair its distance and the edges on its way, up from both ends."""
+    ways = []
+    for (i, j), d in zip(reading.pairs_of(n), distances):
+        if d == reading.MISSING:
+            continue
+        way = set()
+        while i != j:
+            low = min(i, j)
+            way.add(low)
+            i, j = parents[low], max(i, j)
+        ways.append((d, way))
+    return ways
+
+
+def squares_of(ways, lengths):
+    """The sum of squares over the measured pairs."""
+    return sum((d - sum(lengths[v] for v in way)) ** 2 for d, way in ways)
+
+
 class Measured:
     """The least-squares fits to the measured pairs of a matrix, whole or not: `free` has the edges whose lengths can be
     chosen, none where the fit is the only one, and `fit` gives the one with chosen lengths there."""
 
     def __init__(self, n, distances, parents):
         self.edges = len(parents)
-        self.ways = []  # for each measured pair its distance and the edges on its way, up from both ends
-        for (i, j), d in zip(reading.pairs_of(n), distances):
-            if d == reading.MISSING:
-                continue
-            way = set()
-            while i != j:
-                low = min(i, j)
-                way.add(low)
-                i, j = parents[low], max(i, j)
-            self.ways.append((d, way))
+        self.ways = ways_of(n, distances, parents)
         work = [[Fraction(sum(u in way and v in way for _, way in self.ways)) for v in range(self.edges)]
                 + [Fraction(sum(d for d, way in self.ways if u in way))] for u in range(self.edges)]
         taken, done = [], 0
@@ -103,8 +115,74 @@ class Measured:
         return lengths
 
     def squares(self, lengths):
-        """The sum of squares."""
-        return sum((d - sum(lengths[v] for v in way)) ** 2 for d, way in self.ways)
+        return squares_of(self.ways, lengths)
+
+
+class Drawable:
+    """The least-squares fit to the measured pairs among the tables without a negative length."""
+
+    def __init__(self, n, distances, parents):
+        self.edges = len(parents)
+        self.ways = ways_of(n, distances, parents)
+        self.shared = [[sum(u in way and v in way for _, way in self.ways) for v in range(self.edges)]
+                       for u in range(self.edges)]
+        self.wanted = self.sums([0] * self.edges)
+
+    def squares(self, lengths):
+        return squares_of(self.ways, lengths)
+
+    def sums(self, lengths):
+        """For each edge what is observed less what the tree has, added over the measured pairs whose way it is on."""
+        left = [(d - sum(lengths[v] for v in way), way) for d, way in self.ways]
+        return [sum(r for r, way in left if v in way) for v in range(self.edges)]
+
+    def balanced(self, loose):
+        """The table whose edges are zero but for these, and whose sums are zero at these; nothing where it is not the
+        only one."""
+        work = [[Fraction(self.shared[u][v]) for v in loose] + [Fraction(self.wanted[u])] for u in loose]
+        for column in range(len(loose)):
+            pivot = next((r for r in range(column, len(loose)) if work[r][column]), None)
+            if pivot is None:
+                return None
+            work[column], work[pivot] = work[pivot], work[column]
+            top = work[column]
+            for r in range(column + 1, len(loose)):
+                if work[r][column]:
+                    factor = work[r][column] / top[column]
+                    work[r] = [x - factor * y for x, y in zip(work[r], top)]
+        lengths = [Fraction(0)] * self.edges
+        for column in reversed(range(len(loose))):
+            row = work[column]
+            known = sum(row[k] * lengths[loose[k]] for k in range(column + 1, len(loose)))
+            lengths[loose[column]] = (row[-1] - known) / row[column]
+        return lengths
+
+    def fit(self):
+        """By active sets: of the edges at zero whose sum is positive, the one with the largest is let loose, and loose
+        edges that would turn negative are held at zero again. The sum of squares falls with each edge let loose."""
+        lengths, loose = [Fraction(0)] * self.edges, []
+        while True:
+            sums = self.sums(lengths)
+            pulled = [v for v in range(self.edges) if v not in loose and sums[v] > 0]
+            if not pulled:
+                break
+            loose.append(max(pulled, key=lambda v: sums[v]))
+            aim = self.balanced(loose)
+            while any(aim[v] <= 0 for v in loose):
+                step = min(lengths[v] / (lengths[v] - aim[v]) for v in loose if aim[v] <= 0)
+                lengths = [x + step * (y - x) for x, y in zip(lengths, aim)]
+                loose = [v for v in loose if lengths[v] > 0]
+                aim = self.balanced(loose)
+            lengths = aim
+        if any(x < 0 or found > 0 or x > 0 > found for x, found in zip(lengths, self.sums(lengths))):
+            raise ValueError("these lengths are not the best of those without a negative one")
+        return lengths
+
+    def by_trying(self):
+        """The best table, over every choice of the edges that are not held at zero: some best one has edges whose
+        lengths the choice settles."""
+        tables = (self.balanced([v for v in range(self.edges) if choice >> v & 1]) for choice in range(1 << self.edges))
+        return min((table for table in tables if table and min(table) >= 0), key=self.squares)
 
 
 def common(lengths):

@@ -1,6 +1,7 @@
 // Reads sheets from standard input, each led by its length in three bytes, little-endian, and by a byte that is
-// 0 for a sheet of three records, and any other for one without lengths. Prints one line for each: its report,
-// or the direct fit of its tree, with the line ends made spaces, or `refused`, the number and the place.
+// 0 for a sheet of three records, 2 for one where no length may be negative, and any other for one without lengths.
+// Prints one line for each: its report, or the direct fit of its tree, with the line ends made spaces, or `refused`,
+// the number and the place.
 ghost use mathlib.Core.Path.{_≡_};
 ghost use Prim.Native.Nat.{_+_, _≤_, _<_};
 ghost use lib.ListN.{length};
@@ -43,6 +44,9 @@ fn text_of(kind: u8, sheet: &[u8], text: &mut [u8]) -> usize
 {
     if kind == 0 {
         return prints::sheet_print(sheet, text);
+    }
+    if kind == 2 {
+        return prints::sheet_print0(sheet, text);
     }
     prints::unfitted_print(sheet, text)
 }

@@ -4,6 +4,7 @@ pub mod Zeros
 pub mod Exactly
 pub mod Demand3
 pub mod OneFit
+pub mod Joined
 pub mod Steps
 pub mod Placed
 pub mod Complete

@@ -7,6 +7,7 @@ use lib.IntN.{ℤ, pos, negsuc, _+ℤ_, _-ℤ_, _*ℤ_}
 use lib.ListN.{length}
 use lib.Signed.{leZ}
 use Rattle.verdict.specs.Answer.{number}
+use Rattle.verdict.specs.declared.Rule.the-variants.{Plain}
 use Rattle.exact.specs.LeastSquares.{sumX}
 use Rattle.exact.specs.Nearest.{nearest}
 use Rattle.exact.specs.Sum.{pairs}
@@ -45,7 +46,7 @@ sameList (x ∷ xs) (y ∷ ys) = same x y && sameList xs ys
 -- the definitions give the number, and of what is accepted the values
 abbrev pub holds : Figure → Bool
 holds g =
-    eqb (number (judgeTests (g .strains) (g .distances) (g .parents) (g .denominator) (g .numerators))) (g .number)
+    eqb (number (judgeTests Plain (g .strains) (g .distances) (g .parents) (g .denominator) (g .numerators))) (g .number)
     && cond (eqb (g .number) 0) (sameList (valuesOf g) (g .values)) true
 
 abbrev pub allHold : List Figure → Bool

@@ -6,18 +6,19 @@ use lib.IntN.{ℤ}
 use Rattle.verdict.specs.Answer.{answerOf}
 use Rattle.verdict.specs.declared.Verdict.{Verdict}
 use Rattle.verdict.specs.declared.Verdict.the-variants.{Accepted}
+use Rattle.verdict.specs.declared.Rule.{Rule}
 use Rattle.verdict.proofs.Answers.{same-answer}
 use Rattle.fit.specs.Tests.{judgeTests}
 use Rattle.fit.proofs.Exactly.{stands→, →stands}
 use Rattle.judging.specs.Answers.{JudgeAnswer}
 
-module _ (N : ℕ) (ds ps : List ℕ) (D : ℕ) (ns : List ℤ) where
-  pub judged : (r : Verdict) → answerOf r ≡ judgeTests N ds ps D ns → JudgeAnswer N ds ps D ns r
+module _ (rule : Rule) (N : ℕ) (ds ps : List ℕ) (D : ℕ) (ns : List ℤ) where
+  pub judged : (r : Verdict) → answerOf r ≡ judgeTests rule N ds ps D ns → JudgeAnswer rule N ds ps D ns r
   judged r e = record {
     answer = e;
-    accepted = λ q. →stands N ds ps D ns (sym e ∙ ap answerOf q);
-    stands = λ s. same-answer r Accepted (e ∙ stands→ N ds ps D ns s);
+    accepted = λ q. →stands rule N ds ps D ns (sym e ∙ ap answerOf q);
+    stands = λ s. same-answer r Accepted (e ∙ stands→ rule N ds ps D ns s);
   }
 
-  pub one-verdict : (r r′ : Verdict) → JudgeAnswer N ds ps D ns r → JudgeAnswer N ds ps D ns r′ → r ≡ r′
+  pub one-verdict : (r r′ : Verdict) → JudgeAnswer rule N ds ps D ns r → JudgeAnswer rule N ds ps D ns r′ → r ≡ r′
   one-verdict r r′ a b = same-answer r r′ (a .answer ∙ sym (b .answer))

@@ -6,10 +6,11 @@ use lib.IntN.{ℤ}
 use Rattle.verdict.specs.Answer.{answerOf}
 use Rattle.verdict.specs.declared.Verdict.{Verdict}
 use Rattle.verdict.specs.declared.Verdict.the-variants.{Accepted}
+use Rattle.verdict.specs.declared.Rule.{Rule}
 use Rattle.fit.specs.Stands.{Stands}
 use Rattle.fit.specs.Tests.{judgeTests}
 
-pub record JudgeAnswer (N : ℕ) (ds ps : List ℕ) (D : ℕ) (ns : List ℤ) (r : Verdict) : Type 0 where
-  pub answer : answerOf r ≡ judgeTests N ds ps D ns
-  pub accepted : r ≡ Accepted → Stands N ds ps D ns
-  pub stands : Stands N ds ps D ns → r ≡ Accepted
+pub record JudgeAnswer (rule : Rule) (N : ℕ) (ds ps : List ℕ) (D : ℕ) (ns : List ℤ) (r : Verdict) : Type 0 where
+  pub answer : answerOf r ≡ judgeTests rule N ds ps D ns
+  pub accepted : r ≡ Accepted → Stands rule N ds ps D ns
+  pub stands : Stands rule N ds ps D ns → r ≡ Accepted

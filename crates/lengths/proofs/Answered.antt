@@ -9,9 +9,11 @@ use lib.ListN.{length}
 use Rattle.verdict.specs.Answer.{fault, pass}
 use Rattle.verdict.specs.declared.Place.the-variants.{Nowhere, Edge}
 use Rattle.verdict.specs.Table.{first}
+use Rattle.verdict.specs.declared.Rule.{Rule}
+use Rattle.verdict.specs.declared.Rule.the-variants.{Drawable}
 use Rattle.trees.specs.Limits.{maxEdges}
 use Rattle.lengths.specs.Limits.{maxDenominator}
-use Rattle.lengths.specs.Tests.{lengthsTests, numeratorOut}
+use Rattle.lengths.specs.Tests.{lengthsTests, numeratorOut, isNegative, signTests}
 
 module _ (edges D : ℕ) (ns : List ℤ) where
   pub is-11 : length ns ≢ edges → fault 11 Nowhere ≡ lengthsTests edges D ns
@@ -36,3 +38,10 @@ module _ (edges D : ℕ) (ns : List ℤ) where
 
             pub is-0 : length ns ≤ v → pass ≡ lengthsTests edges D ns
             is-0 h = simp (eq-eqb (length ns) edges whole, le-ltb maxEdges edges few, le-ltb D 1 one, le-ltb maxDenominator D most, sym e, le-ltb v (length ns) h)
+
+module _ (rule : Rule) (drawn : rule ≡ Drawable) (ns : List ℤ) (v : ℕ) (e : v ≡ first (length ns) (isNegative ns)) where
+  pub is-22 : v < length ns → fault 22 (Edge v) ≡ signTests rule ns
+  is-22 h = simp (drawn, sym e, lt-ltb v (length ns) h)
+
+  pub none-negative : length ns ≤ v → pass ≡ signTests rule ns
+  none-negative h = simp (drawn, sym e, le-ltb v (length ns) h)

@@ -6,8 +6,11 @@ use Prim.Native.Nat.{ℕ}
 use lib.Dec.{eqb, ltb}
 use lib.IntN.{ℤ, pos, natAbs}
 use lib.ListN.{length, getD}
-use Rattle.verdict.specs.Answer.{Answer, fault, test, atFirst, _orElse_}
+use lib.Signed.{ltZ}
+use Rattle.verdict.specs.Answer.{Answer, pass, fault, test, atFirst, _orElse_}
 use Rattle.verdict.specs.declared.Place.the-variants.{Edge}
+use Rattle.verdict.specs.declared.Rule.{Rule}
+use Rattle.verdict.specs.declared.Rule.the-variants.{Plain, Drawable}
 use Rattle.trees.specs.Limits.{maxEdges}
 use Rattle.lengths.specs.Limits.{maxDenominator, maxNumerator}
 
@@ -22,6 +25,15 @@ denominatorOut D = ltb D 1 || ltb maxDenominator D
 -- 13: a numerator beyond its range
 abbrev pub numeratorOut : List ℤ → ℕ → Bool
 numeratorOut ns v = ltb maxNumerator (natAbs (getD ns v (pos 0)))
+
+-- 22: a negative numerator
+abbrev pub isNegative : List ℤ → ℕ → Bool
+isNegative ns v = ltZ (getD ns v (pos 0)) (pos 0)
+
+-- what the signs of the numerators are asked
+abbrev pub signTests : Rule → List ℤ → Answer
+signTests Plain ns = pass
+signTests Drawable ns = atFirst (length ns) (isNegative ns) (λ v. fault 22 (Edge v))
 
 -- the answer that a proposal gets
 abbrev pub lengthsTests : ℕ → ℕ → List ℤ → Answer

@@ -3,6 +3,7 @@ use tree::Tree;
 use verdict::Place;
 use verdict::Reason;
 use verdict::Refusal;
+use verdict::Rule;
 use verdict::Verdict;
 ghost use mathlib.Core.Path.{_≡_};
 ghost use Prim.Native.Nat.{_≤_};
@@ -13,7 +14,7 @@ ghost use Rattle.verdict.specs.Answer.{answerOf};
 ghost use Rattle.verdict.specs.Table.{first};
 ghost use Rattle.trees.specs.Limits.{maxEdges};
 ghost use Rattle.lengths.specs.Limits.{maxDenominator, maxNumerator};
-ghost use Rattle.lengths.specs.Tests.{numeratorOut, lengthsTests};
+ghost use Rattle.lengths.specs.Tests.{numeratorOut, isNegative, lengthsTests, signTests};
 ghost use Rattle.lengths.specs.Kept.{LengthsAnswer};
 
 // The length of edge v is numerators[v] / denominator; behind the edges stand zeros.
@@ -124,6 +125,39 @@ pub fn check_lengths(edges: usize, d: u32, numerators: &[i64]) -> Verdict
         });
     }
     Verdict::Accepted
+}
+
+// The first edge whose numerator is negative; the count of numerators where none is.
+fn first_negative(numerators: &[i64]) -> usize
+    ensures { λ r. ⌜ r ≡ first (length (now (numerators .entry))) (isNegative (now (numerators .entry))) ⌝ }
+{
+    let mut v = 0;
+    while v < numerators.len() {
+        if numerators[v] < 0 {
+            return v;
+        }
+        v += 1;
+    }
+    v
+}
+
+// 22: where no length may be negative, one is.
+pub fn check_signs(rule: Rule, numerators: &[i64]) -> Verdict
+    ensures { λ r. ⌜ answerOf r ≡ signTests rule (now (numerators .entry)) ⌝ }
+{
+    match rule {
+        Rule::Plain => Verdict::Accepted,
+        Rule::Drawable => {
+            let lowest = first_negative(numerators);
+            if lowest < numerators.len() {
+                return Verdict::Refused(Refusal {
+                    reason: Reason::Negative,
+                    place: Place::Edge(lowest),
+                });
+            }
+            Verdict::Accepted
+        }
+    }
 }
 
 // A table of no lengths: zeros, by a function of its own, so that proofs carry a name in place of every entry.

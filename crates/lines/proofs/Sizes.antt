@@ -7,6 +7,8 @@ use lib.IntN.{ℤ, pos}
 use lib.ListN.{length, length-append}
 use Rattle.verdict.specs.declared.Place.{Place}
 use Rattle.verdict.specs.declared.Place.the-variants.{Nowhere, Byte, Vertex, Edge, EdgeSum}
+use Rattle.verdict.specs.declared.Rule.{Rule}
+use Rattle.verdict.specs.declared.Rule.the-variants.{Plain, Drawable}
 use Rattle.mean.specs.declared.Mean.{Mean}
 use Rattle.mean.specs.declared.Mean.the-variants.{None, Over}
 use Rattle.trees.specs.Limits.{maxEdges}
@@ -57,10 +59,15 @@ mean-length : (F : ℤ) (mean : Mean) → length (meanLine F mean) ≤ widest
 mean-length F None = simp length-append (omega (arith, fields-length []))
 mean-length F (Over d) = simp length-append (omega (arith, fields-length (F ∷ d ∷ [])))
 
-pub text-length : (N K D : ℕ) (n m : ℕ → ℤ) (t F R H : ℤ) (mean : Mean) → K ≤ maxEdges → length (fitText N K D n m t F R H mean) ≤ pageSize
+pub word-length : (rule : Rule) → length (fitWord rule) ≤ 4
+word-length Plain = omega arith
+word-length Drawable = omega arith
+
+pub text-length : (rule : Rule) (N K D : ℕ) (n m : ℕ → ℤ) (t F R H : ℤ) (mean : Mean) → K ≤ maxEdges → length (fitText rule N K D n m t F R H mean) ≤ pageSize
 unfolding fitText
-text-length N K D n m t F R H mean small = simp length-append (omega (
+text-length rule N K D n m t F R H mean small = simp length-append (omega (
   arith,
+  word-length rule,
   fields-length (pos N ∷ pos K ∷ pos D ∷ []),
   edges-length K (λ v. n v ∷ m v ∷ []) (λ v. omega arith),
   fields-length (t ∷ []),

@@ -5,6 +5,8 @@ use Prim.Native.Nat.{ℕ, zero, suc}
 use lib.IntN.{ℤ, pos}
 use Rattle.verdict.specs.declared.Place.{Place}
 use Rattle.verdict.specs.declared.Place.the-variants.{Nowhere, Byte, Vertex, Edge, EdgeSum}
+use Rattle.verdict.specs.declared.Rule.{Rule}
+use Rattle.verdict.specs.declared.Rule.the-variants.{Plain, Drawable}
 use Rattle.mean.specs.declared.Mean.{Mean}
 use Rattle.mean.specs.declared.Mean.the-variants.{None, Over}
 use Rattle.text.specs.Text.{signed}
@@ -22,12 +24,13 @@ fields (z ∷ zs) = 32 ∷ (signed z ++ fields zs)
 abbrev pub line : List ℕ → List ℤ → List ℕ
 line word zs = word ++ (fields zs ++ end)
 
--- "refused", "fit", "byte", "vertex", "edge", "length", "square", "mean", "none", "resolved"
+-- "refused", "fit" and "fit0" by the rule, "byte", "vertex", "edge", "length", "square", "mean", "none", "resolved"
 abbrev pub refusedWord : List ℕ
 refusedWord = 114 ∷ 101 ∷ 102 ∷ 117 ∷ 115 ∷ 101 ∷ 100 ∷ []
 
-abbrev pub fitWord : List ℕ
-fitWord = 102 ∷ 105 ∷ 116 ∷ []
+abbrev pub fitWord : Rule → List ℕ
+fitWord Plain = 102 ∷ 105 ∷ 116 ∷ []
+fitWord Drawable = 102 ∷ 105 ∷ 116 ∷ 48 ∷ []
 
 abbrev pub byteWord : List ℕ
 byteWord = 98 ∷ 121 ∷ 116 ∷ 101 ∷ []
@@ -75,11 +78,11 @@ abbrev pub meanLine : ℤ → Mean → List ℕ
 meanLine F None = line (meanWord ++ (32 ∷ noneWord)) []
 meanLine F (Over d) = line meanWord (F ∷ d ∷ [])
 
--- the whole print of a fit: fit N K D; edge, the edge, n, m; length, the numerator of the tree length; square F R H; the line of the
+-- the whole print of a fit: fit or fit0, N K D; edge, the edge, n, m; length, the numerator of the tree length; square F R H; the line of the
 -- mean square
-unfoldable pub fitText : ℕ → ℕ → ℕ → (ℕ → ℤ) → (ℕ → ℤ) → ℤ → ℤ → ℤ → ℤ → Mean → List ℕ
-fitText N K D n m total F R H mean =
-    line fitWord (pos N ∷ pos K ∷ pos D ∷ [])
+unfoldable pub fitText : Rule → ℕ → ℕ → ℕ → (ℕ → ℤ) → (ℕ → ℤ) → ℤ → ℤ → ℤ → ℤ → Mean → List ℕ
+fitText rule N K D n m total F R H mean =
+    line (fitWord rule) (pos N ∷ pos K ∷ pos D ∷ [])
     ++ (edgeLines K (λ v. n v ∷ m v ∷ [])
     ++ (line lengthWord (total ∷ [])
     ++ (line squareWord (F ∷ R ∷ H ∷ [])

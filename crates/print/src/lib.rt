@@ -2,6 +2,7 @@
 // the print of a resolved tree fitted with no proposal.
 use mean::Mean;
 use tree::Tree;
+use verdict::Rule;
 ghost use mathlib.Core.Path.{_≡_};
 ghost use mathlib.Core.List.{[], _∷_};
 ghost use Prim.Native.Nat.{_+_, _*_, _≤_};
@@ -10,7 +11,7 @@ ghost use lib.ListN.{length, getD};
 ghost use Rattle.exact.specs.Table.{entryOf};
 ghost use Rattle.trees.specs.Limits.{maxEdges};
 ghost use Rattle.text.specs.Text.{Wrote};
-ghost use Rattle.lines.specs.Lines.{edgeLines, fitText, resolvedText};
+ghost use Rattle.lines.specs.Lines.{line, fitWord, edgeLines, fitText, resolvedText};
 ghost use Rattle.lines.specs.Page.{pageSize, widest};
 
 // A line for each of the first k edges: the edge, n, m.
@@ -65,9 +66,23 @@ fn fraction_lines(
     next
 }
 
+// The first line of the print of a fit, at the front of the buffer: its word is that of the rule.
+fn fit_line(text: &mut [u8], rule: Rule, n: u32, k: usize, d: u32) -> usize
+    requires { ⌜ k ≤ maxEdges ⌝ }
+    requires room { ⌜ widest ≤ length (now text) ⌝ }
+    ensures { λ r. ⌜ Wrote (now (text .entry)) (now (text .exit)) 0 (line (fitWord rule) (pos n ∷ pos k ∷ pos d ∷ [])) r ⌝ }
+{
+    let counts = [n as i64, k as i64, d as i64];
+    match rule {
+        Rule::Plain => lines::line(text, 0, b"fit", &counts),
+        Rule::Drawable => lines::line(text, 0, b"fit0", &counts),
+    }
+}
+
 // The whole print of a fit, at the front of the buffer.
 pub fn fit_text(
     text: &mut [u8],
+    rule: Rule,
     n: u32,
     k: usize,
     d: u32,
@@ -81,12 +96,11 @@ pub fn fit_text(
 ) -> usize
     requires { ⌜ k ≤ maxEdges ⌝ }
     requires room { ⌜ pageSize ≤ length (now text) ⌝ }
-    ensures { λ next. ⌜ Wrote (now (text .entry)) (now (text .exit)) 0 (fitText n k d (entryOf (now (numerators .entry))) (entryOf (now (rounded .entry))) total f r h mean) next ⌝ }
+    ensures { λ next. ⌜ Wrote (now (text .entry)) (now (text .exit)) 0 (fitText rule n k d (entryOf (now (numerators .entry))) (entryOf (now (rounded .entry))) total f r h mean) next ⌝ }
 {
-    let counts = [n as i64, k as i64, d as i64];
     let squares = [f, r, h];
     let length = [total];
-    let next = lines::line(text, 0, b"fit", &counts);
+    let next = fit_line(text, rule, n, k, d);
     let next = edge_lines(text, next, k, numerators, rounded);
     let next = lines::line(text, next, b"length", &length);
     let next = lines::line(text, next, b"square", &squares);

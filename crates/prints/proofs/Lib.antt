@@ -2,4 +2,3 @@ pub mod Texts
 pub mod Sheets
 pub mod Unfitted
 pub mod Settled
-pub mod SheetA

@@ -6,6 +6,7 @@ use lib.IntN.{pos}
 use lib.ListN.{length, getD}
 use Rattle.exact.specs.Table.{entryOf}
 use Rattle.verdict.specs.Answer.{Answer, pass, fault, answerOf}
+use Rattle.verdict.specs.declared.Rule.{Rule}
 use Rattle.mean.specs.Mean.{meanOf}
 use Rattle.fit.specs.Quantities.{treeLength, fOf, rOf, hOf, roundedOf}
 use Rattle.resolution.specs.Lengths.{topOf, bottomOf, thousandthOf, squareOf}
@@ -24,23 +25,23 @@ byAnswer pass fit = fit
 byAnswer (fault k p) fit = refusedLine k p
 
 -- of a report, with its two tables
-abbrev pub reportText : SheetFit → List ℕ
-reportText x =
+abbrev pub reportText : Rule → SheetFit → List ℕ
+reportText rule x =
     byAnswer (answerOf (x .report .verdict))
-    (fitText (x .report .strains) (x .report .edges) (x .report .denominator) (entryOf (x .numerators)) (entryOf (x .rounded)) (x .report .length) (x .report .f) (x .report .r) (x .report .h) (x .report .mean))
+    (fitText rule (x .report .strains) (x .report .edges) (x .report .denominator) (entryOf (x .numerators)) (entryOf (x .rounded)) (x .report .length) (x .report .f) (x .report .r) (x .report .h) (x .report .mean))
 
--- fit N K D; edge, n, m for each edge; the tree length's numerator; F, R, H; the mean square
-abbrev pub fitOfSheet : List ℕ → List ℕ
-fitOfSheet s =
-    fitText (strainsOf s) (length (parentsOf s)) (denominatorOf s) (entryOf (numeratorsOf s)) (roundedOf (denominatorOf s) (numeratorsOf s)) (treeLength (numeratorsOf s))
+-- fit or fit0, N K D; edge, n, m for each edge; the tree length's numerator; F, R, H; the mean square
+abbrev pub fitOfSheet : Rule → List ℕ → List ℕ
+fitOfSheet rule s =
+    fitText rule (strainsOf s) (length (parentsOf s)) (denominatorOf s) (entryOf (numeratorsOf s)) (roundedOf (denominatorOf s) (numeratorsOf s)) (treeLength (numeratorsOf s))
     (fOf (strainsOf s) (distancesOf s) (parentsOf s) (denominatorOf s) (numeratorsOf s))
     (rOf (strainsOf s) (distancesOf s) (parentsOf s) (denominatorOf s) (numeratorsOf s))
     (hOf (strainsOf s) (distancesOf s) (parentsOf s))
     (meanOf (strainsOf s) (distancesOf s) (length (parentsOf s)) (denominatorOf s))
 
--- the print of a sheet
-abbrev pub sheetText : List ℕ → List ℕ
-sheetText s = byAnswer (sheetTests s) (fitOfSheet s)
+-- the print of a sheet by a rule
+abbrev pub sheetText : Rule → List ℕ → List ℕ
+sheetText rule s = byAnswer (sheetTests rule s) (fitOfSheet rule s)
 
 -- of a direct fit, with its three tables
 abbrev pub directText : UnfittedFit → List ℕ

@@ -2,6 +2,7 @@
 // or more.
 use sheet::SheetFit;
 use unfitted::UnfittedFit;
+use verdict::Rule;
 use verdict::Verdict;
 ghost use mathlib.Core.Path.{_≡_};
 ghost use Prim.Native.Nat.{_≤_};
@@ -23,10 +24,10 @@ pub fn page() -> [u8; PAGE]
 }
 
 // The print of a report with its two tables.
-fn report_text(fit: SheetFit, text: &mut [u8]) -> usize
+fn report_text(rule: Rule, fit: SheetFit, text: &mut [u8]) -> usize
     requires { ⌜ fit .report .edges ≤ maxEdges ⌝ }
     requires { ⌜ pageSize ≤ length (now text) ⌝ }
-    ensures { λ r. ⌜ Wrote (now (text .entry)) (now (text .exit)) 0 (reportText fit) r ⌝ }
+    ensures { λ r. ⌜ Wrote (now (text .entry)) (now (text .exit)) 0 (reportText rule fit) r ⌝ }
 {
     let report = fit.report;
     let verdict = report.verdict;
@@ -40,6 +41,7 @@ fn report_text(fit: SheetFit, text: &mut [u8]) -> usize
         }
         Verdict::Accepted => print::fit_text(
             text,
+            rule,
             report.strains,
             report.edges,
             report.denominator,
@@ -54,16 +56,32 @@ fn report_text(fit: SheetFit, text: &mut [u8]) -> usize
     }
 }
 
-// The print of a sheet, for a program in C too, at the front of a buffer of a page or more; a smaller one is left as it
-// was. The result is how many bytes the print has, 0 where the buffer is too small.
-#[no_mangle]
-pub extern "C" fn sheet_print(s: &[u8], text: &mut [u8]) -> usize
-    ensures { λ r. ⌜ Shown (sheetText (now (s .entry))) (now (text .entry)) (now (text .exit)) r ⌝ }
+// The print of a sheet by a rule, at the front of a buffer of a page or more; a smaller one is left as it was. The
+// result is how many bytes the print has, 0 where the buffer is too small.
+fn print_by(rule: Rule, s: &[u8], text: &mut [u8]) -> usize
+    ensures { λ r. ⌜ Shown (sheetText rule (now (s .entry))) (now (text .entry)) (now (text .exit)) r ⌝ }
 {
     if text.len() < PAGE {
         return 0;
     }
-    report_text(sheet::sheet_report(s), text)
+    report_text(rule, sheet::sheet_report(rule, s), text)
+}
+
+// The print of a sheet, for a program in C too, at the front of a buffer of a page or more; a smaller one is left as it
+// was. The result is how many bytes the print has, 0 where the buffer is too small.
+#[no_mangle]
+pub extern "C" fn sheet_print(s: &[u8], text: &mut [u8]) -> usize
+    ensures { λ r. ⌜ Shown (sheetText Rule.Plain (now (s .entry))) (now (text .entry)) (now (text .exit)) r ⌝ }
+{
+    print_by(Rule::Plain, s, text)
+}
+
+// The same where no length may be negative.
+#[no_mangle]
+pub extern "C" fn sheet_print0(s: &[u8], text: &mut [u8]) -> usize
+    ensures { λ r. ⌜ Shown (sheetText Rule.Drawable (now (s .entry))) (now (text .entry)) (now (text .exit)) r ⌝ }
+{
+    print_by(Rule::Drawable, s, text)
 }
 
 // The print of a direct fit with its three tables.

@@ -6,5 +6,3 @@ pub mod Parts
 pub mod Whole
 pub mod Readable
 pub mod Longest
-pub mod Example
-pub mod Rows

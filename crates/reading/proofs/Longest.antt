@@ -6,6 +6,7 @@ use Prim.Native.Nat.{ℕ, _+_, _-_, _*_, _≤_}
 use native.Mathlib.Omega.{arith}
 use lib.ListN.{length}
 use Rattle.verdict.specs.Answer.{pass}
+use Rattle.verdict.specs.declared.Rule.{Rule}
 use Rattle.verdict.proofs.Answers.{orElse-pass}
 use Rattle.matrix.specs.Limits.{maxStrains}
 use Rattle.trees.specs.Limits.{maxVertices, maxEdges}
@@ -15,8 +16,8 @@ use Rattle.reading.specs.Holds.{strainsOf, verticesOf, edgesOf}
 use Rattle.reading.specs.Tests.{heldTests, sheetTests}
 use Rattle.reading.proofs.Formed.{fronted}
 
-pub none-longer : (s : List ℕ) → sheetTests s ≡ pass → length s ≤ maxSheet
-none-longer s z = form-short 3 s (orElse-pass (formTests 3 s) (heldTests s) z .0)
+pub none-longer : (rule : Rule) (s : List ℕ) → sheetTests rule s ≡ pass → length s ≤ maxSheet
+none-longer rule s z = form-short 3 s (orElse-pass (formTests 3 s) (heldTests rule s) z .0)
 
 -- a sheet of the form ends where its counts say
 ends-at : (s : List ℕ) → formTests 3 s ≡ pass

@@ -12,10 +12,11 @@ use Rattle.verdict.specs.declared.Place.the-variants.{Nowhere, Edge}
 use Rattle.verdict.specs.declared.Refusal.{Refusal}
 use Rattle.verdict.specs.declared.Verdict.the-variants.{Refused}
 use Rattle.verdict.specs.Answer.{Answer, pass, fault, answerOf, refusalOf, test, atFirst, _orElse_}
+use Rattle.verdict.specs.declared.Rule.{Rule}
 use Rattle.verdict.proofs.Answers.{passes, orElse-pass, orElse-assoc, not-pass}
 use Rattle.matrix.specs.Tests.{matrixTests}
 use Rattle.trees.specs.Limits.{maxEdges}
-use Rattle.lengths.specs.Tests.{denominatorOut, numeratorOut}
+use Rattle.lengths.specs.Tests.{denominatorOut, numeratorOut, signTests}
 use Rattle.fit.specs.Tests.{proposalTests, sumsTests}
 use Rattle.records.specs.Form.{formTests}
 use Rattle.records.proofs.InTurn.{stays}
@@ -72,10 +73,10 @@ two-refused s n x =
 
 -- ---- with lengths
 -- K out is what the lengths are refused for first
-first-eleven : (s : List ℕ) → edgesDiffer 3 s ≡ true → proposalTests (strainsOf s) (distancesOf s) (parentsOf s) (denominatorOf s) (numeratorsOf s) ≡ fault 11 Nowhere
-first-eleven s e =
+first-eleven : (rule : Rule) (s : List ℕ) → edgesDiffer 3 s ≡ true → proposalTests rule (strainsOf s) (distancesOf s) (parentsOf s) (denominatorOf s) (numeratorsOf s) ≡ fault 11 Nowhere
+first-eleven rule s e =
     ap (λ (b : Bool). (test 11 b orElse test 12 (denominatorOut (denominatorOf s)) orElse atFirst (length (numeratorsOf s)) (numeratorOut (numeratorsOf s)) (λ v. fault 13 (Edge v)))
-    orElse sumsTests (strainsOf s) (distancesOf s) (parentsOf s) (denominatorOf s) (numeratorsOf s))
+    orElse signTests rule (numeratorsOf s) orElse sumsTests rule (strainsOf s) (distancesOf s) (parentsOf s) (denominatorOf s) (numeratorsOf s))
     (ap₂ (λ (a b : ℕ). not (eqb a b) || ltb maxEdges (length (parentsOf s))) (length-table (edgesOf s) _) (length-table (verticesOf s - 1) _)
     ∙ ap (λ (b : Bool). b || ltb maxEdges (length (parentsOf s))) e)
 
@@ -83,22 +84,22 @@ by-count : (b : Bool) (x : Answer) → (b ≡ true → x ≡ fault 11 Nowhere) �
 by-count true x h n = h refl
 by-count false x h n = absurd (n refl)
 
-pub sheet-asked : (s : List ℕ) → readTests 3 s ≡ pass
-    → sheetTests s ≡ proposalTests (strainsOf s) (distancesOf s) (parentsOf s) (denominatorOf s) (numeratorsOf s)
-sheet-asked s z = further-asked 3 s z (proposalTests (strainsOf s) (distancesOf s) (parentsOf s) (denominatorOf s) (numeratorsOf s))
+pub sheet-asked : (rule : Rule) (s : List ℕ) → readTests 3 s ≡ pass
+    → sheetTests rule s ≡ proposalTests rule (strainsOf s) (distancesOf s) (parentsOf s) (denominatorOf s) (numeratorsOf s)
+sheet-asked rule s z = further-asked 3 s z (proposalTests rule (strainsOf s) (distancesOf s) (parentsOf s) (denominatorOf s) (numeratorsOf s))
 
-pub sheet-refused : (s : List ℕ) → (readTests 3 s ≡ pass → ⊥) → sheetTests s ≡ readTests 3 s
-sheet-refused s n =
-    let x = proposalTests (strainsOf s) (distancesOf s) (parentsOf s) (denominatorOf s) (numeratorsOf s) in
+pub sheet-refused : (rule : Rule) (s : List ℕ) → (readTests 3 s ≡ pass → ⊥) → sheetTests rule s ≡ readTests 3 s
+sheet-refused rule s n =
+    let x = proposalTests rule (strainsOf s) (distancesOf s) (parentsOf s) (denominatorOf s) (numeratorsOf s) in
     refused-by 3 s x
-    (λ z. by-count (edgesDiffer 3 s) x (first-eleven s) (λ e. n (read-is 3 s ∙ ap₂ _orElse_ z e)))
+    (λ z. by-count (edgesDiffer 3 s) x (first-eleven rule s) (λ e. n (read-is 3 s ∙ ap₂ _orElse_ z e)))
     n
 
 -- ---- by the reader's answer: a refusal is the whole answer
-pub refused-whole : (s : List ℕ) (r : Sheet) (q : Refusal) → SheetAnswer 3 s r → r .verdict ≡ Refused q → refusalOf q ≡ sheetTests s
-refused-whole s r q a e =
+pub refused-whole : (rule : Rule) (s : List ℕ) (r : Sheet) (q : Refusal) → SheetAnswer 3 s r → r .verdict ≡ Refused q → refusalOf q ≡ sheetTests rule s
+refused-whole rule s r q a e =
     let told : refusalOf q ≡ readTests 3 s = sym (ap answerOf e) ∙ a .answer in
-    told ∙ sym (sheet-refused s (λ z. not-pass q (told ∙ z)))
+    told ∙ sym (sheet-refused rule s (λ z. not-pass q (told ∙ z)))
 
 pub refused-two : (s : List ℕ) (r : Sheet) (q : Refusal) (x : Answer) → SheetAnswer 2 s r → r .verdict ≡ Refused q → refusalOf q ≡ furtherTests 2 s x
 refused-two s r q x a e =

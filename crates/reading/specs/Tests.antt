@@ -4,6 +4,7 @@ use mathlib.Core.List.{List}
 use Prim.Native.Nat.{ℕ, _-_}
 use lib.Dec.{eqb, ltb}
 use Rattle.verdict.specs.Answer.{Answer, test, _orElse_}
+use Rattle.verdict.specs.declared.Rule.{Rule}
 use Rattle.matrix.specs.Tests.{matrixTests}
 use Rattle.fit.specs.Tests.{shapeTests, postedTests, judgeTests}
 use Rattle.records.specs.Form.{formTests}
@@ -32,13 +33,13 @@ pairTests count s =
 abbrev pub readTests : ℕ → List ℕ → Answer
 readTests count s = formTests count s orElse pairTests count s orElse test 11 (edgesDiffer count s)
 
--- the tests over what the three records hold: 6 to 14, 16, 26
-abbrev pub heldTests : List ℕ → Answer
-heldTests s =
+-- the tests over what the three records hold: 6 to 14, 16, 22, 23, 26
+abbrev pub heldTests : Rule → List ℕ → Answer
+heldTests rule s =
     matrixTests (strainsOf s) (distancesOf s)
     orElse test 8 (strainsDiffer s)
-    orElse judgeTests (strainsOf s) (distancesOf s) (parentsOf s) (denominatorOf s) (numeratorsOf s)
+    orElse judgeTests rule (strainsOf s) (distancesOf s) (parentsOf s) (denominatorOf s) (numeratorsOf s)
 
--- the whole answer to a sheet: 1 to 14, 16, 26
-abbrev pub sheetTests : List ℕ → Answer
-sheetTests s = formTests 3 s orElse heldTests s
+-- the whole answer to a sheet: 1 to 14, 16, 22, 23, 26
+abbrev pub sheetTests : Rule → List ℕ → Answer
+sheetTests rule s = formTests 3 s orElse heldTests rule s

@@ -9,17 +9,11 @@ use verdict::Refusal;
 use verdict::Verdict;
 ghost use mathlib.Core.Path.{_≡_};
 ghost use mathlib.Core.Bool.{not};
-ghost use Prim.Native.Nat.{_+_, _-_, _*_, _≤_, _<_};
+ghost use Prim.Native.Nat.{_-_, _≤_};
 ghost use lib.Dec.{eqb};
-ghost use lib.IntN.{pos};
-ghost use lib.ListN.{length};
-ghost use Rattle.exact.specs.Table.{table, padded};
 ghost use Rattle.verdict.specs.Answer.{pass, answerOf, test, _orElse_};
-ghost use Rattle.matrix.specs.Limits.{maxStrains, maxPairs};
-ghost use Rattle.matrix.specs.Place.{pairCount, fromRows};
 ghost use Rattle.matrix.specs.Tests.{matrixTests};
 ghost use Rattle.trees.specs.Limits.{maxEdges};
-ghost use Rattle.endian.specs.Bytes.{number, twos};
 ghost use Rattle.records.specs.Form.{maxRecords, startOf, formTests};
 ghost use Rattle.reading.specs.Holds.{verticesOf};
 ghost use Rattle.reading.specs.Tests.{bothTests};
@@ -45,68 +39,6 @@ struct Proposal {
     denominator: u32,
     edges: usize,
     numerators: [i64; Tree::MAX_EDGES],
-}
-
-// Zeros, by a function of their own: proofs then carry a name in place of every entry.
-fn no_distances() -> [u16; Matrix::MAX_PAIRS]
-    ensures { λ r. ⌜ r ≡ table maxPairs (λ _. 0) ⌝ }
-{
-    [0; Matrix::MAX_PAIRS]
-}
-
-// Reads the distances of strain j with those before it from the rows that start at `at`. They go behind the `first` ones that
-// are held already, those between the strains before j.
-fn column(
-    s: &[u8],
-    at: usize,
-    n: usize,
-    j: usize,
-    first: usize,
-    held: &mut [u16; Matrix::MAX_PAIRS],
-)
-    requires { ⌜ (0 < j) × (j < n) × (n ≤ maxStrains) × (first ≡ pairCount j) × (at + 2 * pairCount n ≤ length (now s)) ⌝ }
-    requires { ⌜ now held ≡ padded 0 maxPairs first (fromRows n (λ k. number 2 (now s) (at + 2 * k))) ⌝ }
-    ensures { λ _. ⌜ now (held .exit) ≡ padded 0 maxPairs (first + j) (fromRows n (λ k. number 2 (now (s .entry)) (at + 2 * k))) ⌝ }
-{
-    let mut row = matrix::row_place(n, 0, j);
-    held[first] = endian::u16_at(s, at + 2 * row);
-    let mut i = 0;
-    while i + 1 < j {
-        row = matrix::row_below(n, i, j, row);
-        i += 1;
-        held[first + i] = endian::u16_at(s, at + 2 * row);
-    }
-}
-
-// The distances of n strains, whose rows start at `at`, each at its place in the matrix; then zeros.
-fn distances(s: &[u8], at: usize, n: usize, count: usize) -> [u16; Matrix::MAX_PAIRS]
-    requires { ⌜ (n ≤ maxStrains) × (count ≡ pairCount n) × (at + 2 * count ≤ length (now s)) ⌝ }
-    ensures { λ r. ⌜ r ≡ padded 0 maxPairs count (fromRows n (λ k. number 2 (now (s .entry)) (at + 2 * k))) ⌝ }
-{
-    let mut held = no_distances();
-    let mut j = 1;
-    let mut first = 0;
-    while first < count {
-        column(s, at, n, j, first, &mut held);
-        first += j;
-        j += 1;
-    }
-    held
-}
-
-// The numerators that start at `at`, then zeros.
-fn numerators(s: &[u8], at: usize, count: usize) -> [i64; Tree::MAX_EDGES]
-    requires { ⌜ (count ≤ maxEdges) × (at + 8 * count ≤ length (now s)) ⌝ }
-    ensures { λ r. ⌜ r ≡ padded (pos 0) maxEdges count (λ k. twos (number 8 (now (s .entry)) (at + 8 * k))) ⌝ }
-{
-    let mut held = lengths::no_lengths();
-    let mut k = 0;
-    while k < count {
-        let x = endian::i64_at(s, at + 8 * k);
-        held[k] = x;
-        k += 1;
-    }
-    held
 }
 
 // 4, 6 to 10, 16, 26: the matrix; 8 where the tree is for other strains; both, together where lengths follow.
@@ -160,7 +92,7 @@ fn proposed_lengths(s: &[u8], count: usize, at: usize, edges: usize) -> Proposal
         verdict: Verdict::Accepted,
         denominator: endian::u32_at(s, body),
         edges,
-        numerators: numerators(s, body + 6, edges),
+        numerators: decoding::numerators(s, body + 6, edges),
     }
 }
 
@@ -172,7 +104,7 @@ fn refused(refusal: Refusal) -> Sheet
         verdict: Verdict::Refused(refusal),
         strains: 0,
         pairs: 0,
-        distances: no_distances(),
+        distances: decoding::no_distances(),
         parents: 0,
         end: 0,
         denominator: 0,
@@ -196,7 +128,7 @@ fn held(s: &[u8], count: usize, tree: usize, end: usize) -> Sheet
         });
     }
     let pairs = matrix::pair_count(n) as usize;
-    let measured = distances(s, Layout::HEAD + 2, strains, pairs);
+    let measured = decoding::distances(s, Layout::HEAD + 2, strains, pairs);
     let body = tree + Layout::HEAD;
     let of_tree = endian::u16_at(s, body) as u32;
     let parents = body + 4;

@@ -24,6 +24,7 @@ use Rattle.exact.proofs.LeastSquares.{path-cong}
 use Rattle.exact.proofs.Order.{≤-trans}
 use Rattle.exact.proofs.Sweep.{sum-abs}
 use Rattle.exact.proofs.Sum.{pairs-sums, S-cong, S-sq}
+use Rattle.verdict.specs.declared.Rule.{Rule}
 use Rattle.matrix.specs.Limits.{maxPairs}
 use Rattle.matrix.specs.Place.{distance, pairCount}
 use Rattle.matrix.proofs.Completes.{known-near}
@@ -43,7 +44,7 @@ use Rattle.reporting.specs.Answers.{maxTreeLength}
 pub fits-of : (z y : ℤ) → z ≡ y → Fits63 y → SFits w64 z
 fits-of z y e f = fits-abs z (omega (arith, ap natAbs e, between y 9223372036854775807 (f .low) (f .high)))
 
-module _ (N : ℕ) (ds ps : List ℕ) (D : ℕ) (ns : List ℤ) (s : Stands N ds ps D ns) where
+module _ (rule : Rule) (N : ℕ) (ds ps : List ℕ) (D : ℕ) (ns : List ℤ) (s : Stands rule N ds ps D ns) where
   pub posted : Posted N ds ps
   posted = record { matrix = s .matrix; tree = s .tree; seen = s .seen }
 
@@ -58,7 +59,7 @@ module _ (N : ℕ) (ds ps : List ℕ) (D : ℕ) (ns : List ℤ) (s : Stands N ds
   total-is = ap (λ (k : ℕ). sum k (entryOf ns)) (sym (s .lengths .whole))
 
   pub f-fits : Fits63 (fOf N ds ps D ns)
-  f-fits = record { low = least N ds ps D ns s .f-low; high = ≤-trans (least N ds ps D ns s .f-high) (record { le = tt }) }
+  f-fits = record { low = least rule N ds ps D ns s .f-low; high = ≤-trans (least rule N ds ps D ns s .f-high) (record { le = tt }) }
 
   pub h-fits : Fits63 (hOf N ds ps)
   h-fits = record { low = S-sq (pairs-sums N) (hops (length ps) (partsIn ds ps)); high = ≤-trans (h-high (length ps) edges-few (partsIn ds ps) N (s .matrix .few)) (record { le = tt }) }
@@ -88,7 +89,7 @@ module _ (N : ℕ) (ds ps : List ℕ) (D : ℕ) (ns : List ℤ) (s : Stands N ds
     r-same = S-cong (pairs-sums N) (λ p. ap (λ (z : ℤ). sq (pos 1000 *ℤ distance ds p -ℤ z)) (path-cong (length ps) (partsIn ds ps) (entryOf ms) (roundedOf D ns) entry-is p))
 
     pub r-fits : Fits63 (sumR (pairs N) (length ps) (partsIn ds ps) (distance ds) (entryOf ms))
-    r-fits = let (low, high) = r-range N ds ps D ns s in subst Fits63 (sym r-same) (record { low = low; high = ≤-trans high (record { le = tt }) })
+    r-fits = let (low, high) = r-range rule N ds ps D ns s in subst Fits63 (sym r-same) (record { low = low; high = ≤-trans high (record { le = tt }) })
 
     pub rounded-is : (after : List ℤ) → after ≡ table (length ps) (entryOf ms) → after ≡ table (length ps) (roundedOf D ns)
     rounded-is after f = f ∙ table-cong (pos 0) (length ps) (entryOf ms) (roundedOf D ns) entry-is

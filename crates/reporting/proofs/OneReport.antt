@@ -1,4 +1,5 @@
--- A report's contract leaves one report and one content of the buffer: two that meet it on the same input are equal.
+-- A report's contract leaves one report and one content of the buffer: two that meet it on the same input are equal. So are two by
+-- different rules that give the same answer.
 use mathlib.Core.Path.{_≡_, sym, _∙_, ap, ap₂}
 use mathlib.Core.List.{List}
 use Prim.Native.Nat.{ℕ}
@@ -7,6 +8,7 @@ use Rattle.exact.proofs.Decide.{by-cases}
 use Rattle.mean.specs.declared.Mean.{Mean}
 use Rattle.verdict.specs.declared.Verdict.{Verdict}
 use Rattle.verdict.specs.Answer.{Answer, pass}
+use Rattle.verdict.specs.declared.Rule.{Rule}
 use Rattle.verdict.proofs.Answers.{same-answer, passes}
 use Rattle.reporting.specs.declared.FitReport.{FitReport}
 use Rattle.reporting.specs.Answers.{Reported, Silent, Report}
@@ -33,9 +35,9 @@ same-report x y e s =
     whole : Verdict → ℕ → ℕ → ℕ → ℤ → ℤ → ℤ → ℤ → Mean → FitReport
     whole v a b c z f r h m = record { verdict = v; strains = a; edges = b; denominator = c; length = z; f = f; r = r; h = h; mean = m }
 
-module _ (k : Answer) (N : ℕ) (ds ps : List ℕ) (D : ℕ) (ns before after after′ : List ℤ) (x y : FitReport)
-    (p : Report k N ds ps D ns before after x) (q : Report k N ds ps D ns before after′ y) where
-  fits : Reported N ds ps D ns after x → Reported N ds ps D ns after′ y → SameNumbers x y
+module _ (k : Answer) (rule rule′ : Rule) (N : ℕ) (ds ps : List ℕ) (D : ℕ) (ns before after after′ : List ℤ) (x y : FitReport)
+    (p : Report k rule N ds ps D ns before after x) (q : Report k rule′ N ds ps D ns before after′ y) where
+  fits : Reported rule N ds ps D ns after x → Reported rule′ N ds ps D ns after′ y → SameNumbers x y
   fits a b = record {
     strains = a .strains ∙ sym (b .strains);
     edges = a .edges ∙ sym (b .edges);

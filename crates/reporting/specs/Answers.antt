@@ -6,6 +6,7 @@ use lib.IntN.{ℤ, pos, natAbs}
 use lib.ListN.{length}
 use Rattle.exact.specs.Table.{table}
 use Rattle.verdict.specs.Answer.{Answer, pass, answerOf, test, _orElse_}
+use Rattle.verdict.specs.declared.Rule.{Rule}
 use Rattle.mean.specs.declared.Mean.the-variants.{None}
 use Rattle.mean.specs.Mean.{meanOf}
 use Rattle.trees.specs.Limits.{maxEdges}
@@ -20,7 +21,7 @@ abbrev pub maxTreeLength : ℕ
 maxTreeLength = maxEdges * maxNumerator
 
 -- the numbers of an accepted fit, that it stands, and what RULES, Least squares says of it
-pub record Reported (N : ℕ) (ds ps : List ℕ) (D : ℕ) (ns : List ℤ) (after : List ℤ) (x : FitReport) : Type 0 where
+pub record Reported (rule : Rule) (N : ℕ) (ds ps : List ℕ) (D : ℕ) (ns : List ℤ) (after : List ℤ) (x : FitReport) : Type 0 where
   pub strains : x .strains ≡ N
   pub edges : x .edges ≡ length ps
   pub denominator : x .denominator ≡ D
@@ -31,8 +32,8 @@ pub record Reported (N : ℕ) (ds ps : List ℕ) (D : ℕ) (ns : List ℤ) (afte
   -- what F is over in the mean square, or none
   pub mean : x .mean ≡ meanOf N ds (length ps) D
   pub rounded : after ≡ table (length ps) (roundedOf D ns)
-  pub stands : Stands N ds ps D ns
-  pub least : Least N ds ps D ns
+  pub stands : Stands rule N ds ps D ns
+  pub least : Least rule N ds ps D ns
   pub near : natAbs (treeLength ns) ≤ maxTreeLength
 
 -- nothing is reported
@@ -47,19 +48,19 @@ pub record Silent (x : FitReport) : Type 0 where
   pub mean : x .mean ≡ None
 
 -- a report of the answer a: the numbers and the rounded lengths where it passes, otherwise nothing and the buffer as it was
-pub record Report (a : Answer) (N : ℕ) (ds ps : List ℕ) (D : ℕ) (ns before after : List ℤ) (x : FitReport) : Type 0 where
+pub record Report (a : Answer) (rule : Rule) (N : ℕ) (ds ps : List ℕ) (D : ℕ) (ns before after : List ℤ) (x : FitReport) : Type 0 where
   pub answer : answerOf (x .verdict) ≡ a
-  pub reported : a ≡ pass → Reported N ds ps D ns after x
+  pub reported : a ≡ pass → Reported rule N ds ps D ns after x
   pub silent : (a ≡ pass → ⊥) → Silent x
   pub kept : (a ≡ pass → ⊥) → after ≡ before
 
--- of lengths beside a matrix and a tree that pass: 11 to 15
-abbrev pub proposalReportTests : ℕ → List ℕ → List ℕ → ℕ → List ℤ → ℕ → Answer
-proposalReportTests N ds ps D ns size = proposalTests N ds ps D ns orElse test 15 (bufferOut size (length ps))
+-- of lengths beside a matrix and a tree that pass: 11 to 15, 22, 23
+abbrev pub proposalReportTests : Rule → ℕ → List ℕ → List ℕ → ℕ → List ℤ → ℕ → Answer
+proposalReportTests rule N ds ps D ns size = proposalTests rule N ds ps D ns orElse test 15 (bufferOut size (length ps))
 
-abbrev pub ProposalReport : (N : ℕ) → (ds ps : List ℕ) → (D : ℕ) → (ns before after : List ℤ) → FitReport → Type 0
-ProposalReport N ds ps D ns before after x = Report (proposalReportTests N ds ps D ns (length before)) N ds ps D ns before after x
+abbrev pub ProposalReport : (rule : Rule) (N : ℕ) → (ds ps : List ℕ) → (D : ℕ) → (ns before after : List ℤ) → FitReport → Type 0
+ProposalReport rule N ds ps D ns before after x = Report (proposalReportTests rule N ds ps D ns (length before)) rule N ds ps D ns before after x
 
--- of all that is lent: 4, 6 to 16, 26
-abbrev pub ReportAnswer : (N : ℕ) → (ds ps : List ℕ) → (D : ℕ) → (ns before after : List ℤ) → FitReport → Type 0
-ReportAnswer N ds ps D ns before after x = Report (reportTests N ds ps D ns (length before)) N ds ps D ns before after x
+-- of all that is lent: 4, 6 to 16, 22, 23, 26
+abbrev pub ReportAnswer : (rule : Rule) (N : ℕ) → (ds ps : List ℕ) → (D : ℕ) → (ns before after : List ℤ) → FitReport → Type 0
+ReportAnswer rule N ds ps D ns before after x = Report (reportTests rule N ds ps D ns (length before)) rule N ds ps D ns before after x

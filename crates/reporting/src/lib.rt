@@ -4,6 +4,7 @@ use mean::Mean;
 use verdict::Place;
 use verdict::Reason;
 use verdict::Refusal;
+use verdict::Rule;
 use verdict::Verdict;
 ghost use mathlib.Core.Path.{_≡_};
 ghost use lib.ListN.{length};
@@ -44,6 +45,7 @@ pub fn silent(refusal: Refusal) -> FitReport
 // The numbers of lengths that fit, with the rounded lengths in the buffer. That they fit is what keeps F and R within
 // 64 bits.
 fn numbered(
+    rule: Rule,
     n: u32,
     distances: &[u16],
     parents: &[u8],
@@ -51,10 +53,10 @@ fn numbered(
     numerators: &[i64],
     rounded: &mut [i64],
 ) -> FitReport
-    requires { ⌜ Stands n (now distances) (now parents) d (now numerators) ⌝ }
+    requires { ⌜ Stands rule n (now distances) (now parents) d (now numerators) ⌝ }
     requires { ⌜ length (now rounded) ≡ length (now parents) ⌝ }
     ensures { λ r. ⌜ r .verdict ≡ Verdict.Accepted ⌝ }
-    ensures { λ r. ⌜ Reported n (now (distances .entry)) (now (parents .entry)) d (now (numerators .entry)) (now (rounded .exit)) r ⌝ }
+    ensures { λ r. ⌜ Reported rule n (now (distances .entry)) (now (parents .entry)) d (now (numerators .entry)) (now (rounded .exit)) r ⌝ }
 {
     let strains = n as usize;
     let edges = parents.len();
@@ -84,8 +86,9 @@ fn numbered(
     }
 }
 
-// The report of lengths beside a matrix and a tree that pass: 11 to 15, the first that applies.
+// The report of lengths beside a matrix and a tree that pass: 11 to 13, 22, 14, 23, 15, the first that applies.
 pub fn report_proposal(
+    rule: Rule,
     n: u32,
     distances: &[u16],
     parents: &[u8],
@@ -94,9 +97,9 @@ pub fn report_proposal(
     rounded: &mut [i64],
 ) -> FitReport
     requires { ⌜ Posted n (now distances) (now parents) ⌝ }
-    ensures { λ r. ⌜ ProposalReport n (now (distances .entry)) (now (parents .entry)) d (now (numerators .entry)) (now (rounded .entry)) (now (rounded .exit)) r ⌝ }
+    ensures { λ r. ⌜ ProposalReport rule n (now (distances .entry)) (now (parents .entry)) d (now (numerators .entry)) (now (rounded .entry)) (now (rounded .exit)) r ⌝ }
 {
-    let found = judging::judge_proposal(n, distances, parents, d, numerators);
+    let found = judging::judge_proposal(rule, n, distances, parents, d, numerators);
     if let Verdict::Refused(refusal) = found {
         return silent(refusal);
     }
@@ -106,11 +109,12 @@ pub fn report_proposal(
             place: Place::Nowhere,
         });
     }
-    numbered(n, distances, parents, d, numerators, rounded)
+    numbered(rule, n, distances, parents, d, numerators, rounded)
 }
 
-// The report: 4, 6 to 16, 26, the first that applies.
+// The report: 4, 6 to 16, 22, 23, 26, the first that applies.
 pub fn report(
+    rule: Rule,
     n: u32,
     distances: &[u16],
     parents: &[u8],
@@ -118,11 +122,11 @@ pub fn report(
     numerators: &[i64],
     rounded: &mut [i64],
 ) -> FitReport
-    ensures { λ r. ⌜ ReportAnswer n (now (distances .entry)) (now (parents .entry)) d (now (numerators .entry)) (now (rounded .entry)) (now (rounded .exit)) r ⌝ }
+    ensures { λ r. ⌜ ReportAnswer rule n (now (distances .entry)) (now (parents .entry)) d (now (numerators .entry)) (now (rounded .entry)) (now (rounded .exit)) r ⌝ }
 {
     let posted = posting::check_posting(n, distances, parents);
     if let Verdict::Refused(refusal) = posted {
         return silent(refusal);
     }
-    report_proposal(n, distances, parents, d, numerators, rounded)
+    report_proposal(rule, n, distances, parents, d, numerators, rounded)
 }

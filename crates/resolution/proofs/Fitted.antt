@@ -118,7 +118,7 @@ module _ (N K : ℕ) (par : ℕ → ℕ) (ok : Allowed N K par) (res : Resolved 
   pub r-fits : Fits63 (sumR (pairs N) K (partsPair par) d rounded)
   r-fits = let (D, n, o) = common K num den (λ v l. in-lowest v l .positive) in record {
     low = S-sq (pairs-sums N) (remainder K (partsPair par) d (pos 1000) rounded);
-    high = ≤-trans (close-high K d (omega (arith, ok .few, ok .most)) (λ p. near p) (partsPair par) N (ok .few) D n rounded (is-rounding D n o)) (record { le = tt });
+    high = ≤-trans (close-high K d (omega (arith, ok .few, ok .most)) (λ p. near p) (partsPair par) N (ok .few) Any record {} D n rounded (is-rounding D n o)) (record { le = tt });
   }
     where
       near : (p : ℕ × ℕ) → natAbs (d p) ≤ 50000

@@ -13,6 +13,7 @@ use Rattle.exact.proofs.Fill.{length-table, getD-table, getD-table-const}
 use Rattle.verdict.specs.Answer.{Answer, pass, fault, answerOf, refusalOf, test, _orElse_}
 use Rattle.verdict.specs.declared.Refusal.{Refusal}
 use Rattle.verdict.specs.declared.Verdict.the-variants.{Accepted, Refused}
+use Rattle.verdict.specs.declared.Rule.{Rule}
 use Rattle.verdict.proofs.Answers.{not-pass}
 use Rattle.trees.specs.Limits.{maxEdges}
 use Rattle.trees.specs.EdgeTable.{EdgeTable}
@@ -30,14 +31,14 @@ use Rattle.reporting.specs.Answers.{Reported, ProposalReport}
 use Rattle.sheet.specs.declared.SheetFit.{SheetFit}
 use Rattle.sheet.specs.Reports.{Fitted, Unfitted, SheetReport}
 
-pub refused-sheet : (s : List ℕ) (r : SheetFit) (q : Refusal) → r .report .verdict ≡ Refused q → Unfitted r → refusalOf q ≡ sheetTests s → SheetReport s r
-refused-sheet s r q e u g = record { answer = ap answerOf e ∙ g; fitted = λ z. absurd (not-pass q (g ∙ z)); unfitted = λ _. u }
+pub refused-sheet : (rule : Rule) (s : List ℕ) (r : SheetFit) (q : Refusal) → r .report .verdict ≡ Refused q → Unfitted r → refusalOf q ≡ sheetTests rule s → SheetReport rule s r
+refused-sheet rule s r q e u g = record { answer = ap answerOf e ∙ g; fitted = λ z. absurd (not-pass q (g ∙ z)); unfitted = λ _. u }
 
 last-none : (a : Answer) → (a orElse pass) ≡ a
 last-none pass = refl
 last-none (fault k p) = refl
 
-module _ (s : List ℕ) (r : Sheet) (a : SheetAnswer 3 s r) (e : r .verdict ≡ Accepted) (zeros : List ℤ) (blank : zeros ≡ table maxEdges (λ _. pos 0)) where
+module _ (rule : Rule) (s : List ℕ) (r : Sheet) (a : SheetAnswer 3 s r) (e : r .verdict ≡ Accepted) (zeros : List ℤ) (blank : zeros ≡ table maxEdges (λ _. pos 0)) where
   parts : Parts s r
   parts = read-parts 3 s r (omega arith) a e
 
@@ -55,22 +56,22 @@ module _ (s : List ℕ) (r : Sheet) (a : SheetAnswer 3 s r) (e : r .verdict ≡ 
   front-size = sym (length-take-le (r .edges) zeros front-there)
 
   module _ (after : List ℤ) (x : FitReport)
-      (p : ProposalReport (r .strains) (take (r .pairs) (r .distances)) (take (r .end - r .parents) (drop (r .parents) s)) (r .denominator) (take (r .edges) (r .numerators)) (take (r .edges) zeros) after x) where
-    whole : ProposalReport (strainsOf s) (distancesOf s) (parentsOf s) (denominatorOf s) (numeratorsOf s) (take (r .edges) zeros) after x
-    whole = of-lengths parts lengths (λ n ds ps d ns. ProposalReport n ds ps d ns (take (r .edges) zeros) after x) p
+      (p : ProposalReport rule (r .strains) (take (r .pairs) (r .distances)) (take (r .end - r .parents) (drop (r .parents) s)) (r .denominator) (take (r .edges) (r .numerators)) (take (r .edges) zeros) after x) where
+    whole : ProposalReport rule (strainsOf s) (distancesOf s) (parentsOf s) (denominatorOf s) (numeratorsOf s) (take (r .edges) zeros) after x
+    whole = of-lengths parts lengths (λ n ds ps d ns. ProposalReport rule n ds ps d ns (take (r .edges) zeros) after x) p
 
     -- the buffer is of the exact length
     right : test 15 (bufferOut (length (take (r .edges) zeros)) (length (parentsOf s))) ≡ pass
     right = rw (eq-eqb (length (take (r .edges) zeros)) (length (parentsOf s)) (sym front-size ∙ lengths .count))
 
-    pub asked : answerOf (x .verdict) ≡ sheetTests s
+    pub asked : answerOf (x .verdict) ≡ sheetTests rule s
     asked = whole .answer
-        ∙ ap (λ (k : Answer). proposalTests (strainsOf s) (distancesOf s) (parentsOf s) (denominatorOf s) (numeratorsOf s) orElse k) right
-        ∙ last-none (proposalTests (strainsOf s) (distancesOf s) (parentsOf s) (denominatorOf s) (numeratorsOf s))
-        ∙ sym (sheet-asked s (accepted 3 s r a e))
+        ∙ ap (λ (k : Answer). proposalTests rule (strainsOf s) (distancesOf s) (parentsOf s) (denominatorOf s) (numeratorsOf s) orElse k) right
+        ∙ last-none (proposalTests rule (strainsOf s) (distancesOf s) (parentsOf s) (denominatorOf s) (numeratorsOf s))
+        ∙ sym (sheet-asked rule s (accepted 3 s r a e))
 
     module _ (f : x .verdict ≡ Accepted) where
-      reported : Reported (strainsOf s) (distancesOf s) (parentsOf s) (denominatorOf s) (numeratorsOf s) after x
+      reported : Reported rule (strainsOf s) (distancesOf s) (parentsOf s) (denominatorOf s) (numeratorsOf s) after x
       reported = whole .reported (sym (whole .answer) ∙ ap answerOf f)
 
       few : length (parentsOf s) ≤ maxEdges
@@ -94,11 +95,11 @@ module _ (s : List ℕ) (r : Sheet) (a : SheetAnswer 3 s r) (e : r .verdict ≡ 
         rest = λ v l. t .rest v (omega (arith, as-many));
       }
 
-      pub fitted-sheet : SheetReport s (record { report = x; numerators = r .numerators; rounded = after ++ drop (r .edges) zeros })
-      fitted-sheet = let zero : pass ≡ sheetTests s = sym (ap answerOf f) ∙ asked in record {
+      pub fitted-sheet : SheetReport rule s (record { report = x; numerators = r .numerators; rounded = after ++ drop (r .edges) zeros })
+      fitted-sheet = let zero : pass ≡ sheetTests rule s = sym (ap answerOf f) ∙ asked in record {
         answer = asked;
         fitted = λ _. record {
-          reported = subst (λ (l : List ℤ). Reported (strainsOf s) (distancesOf s) (parentsOf s) (denominatorOf s) (numeratorsOf s) l x) (reported .rounded) reported;
+          reported = subst (λ (l : List ℤ). Reported rule (strainsOf s) (distancesOf s) (parentsOf s) (denominatorOf s) (numeratorsOf s) l x) (reported .rounded) reported;
           numerators = numerators;
           rounded = rounded;
         };

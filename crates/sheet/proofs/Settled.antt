@@ -1,12 +1,13 @@
 -- The contract of `sheet_report` leaves one report with its two tables: two values that meet it on the same bytes are equal
--- (`one-sheet-report`).
-use mathlib.Core.Path.{_≡_, refl, sym, _∙_, ap, ap₂}
+-- (`one-sheet-report`), and so are two by different rules that give the same answer (`same-report`).
+use mathlib.Core.Path.{_≡_, refl, sym, _∙_, ap, ap₂, subst}
 use mathlib.Core.List.{List}
 use Prim.Native.Nat.{ℕ}
 use lib.IntN.{ℤ}
 use lib.ListN.{length}
 use Rattle.verdict.proofs.Answers.{passes}
-use Rattle.verdict.specs.Answer.{pass}
+use Rattle.verdict.specs.Answer.{Answer, pass}
+use Rattle.verdict.specs.declared.Rule.{Rule}
 use Rattle.exact.specs.Table.{table}
 use Rattle.exact.proofs.Decide.{by-cases}
 use Rattle.trees.proofs.EdgeTables.{one-table}
@@ -30,14 +31,22 @@ module _ (s : List ℕ) where
   abbrev lengths : List ℤ
   lengths = table (length (parentsOf s)) (roundedOf (denominatorOf s) (numeratorsOf s))
 
-  report : (x : SheetFit) → SheetReport s x → Report (sheetTests s) (strainsOf s) (distancesOf s) (parentsOf s) (denominatorOf s) (numeratorsOf s) lengths lengths (x .report)
-  report x a = record { answer = a .answer; reported = λ z. a .fitted z .reported; silent = λ n. a .unfitted n .silent; kept = λ _. refl }
+  report : (rule : Rule) (x : SheetFit) → SheetReport rule s x → Report (sheetTests rule s) rule (strainsOf s) (distancesOf s) (parentsOf s) (denominatorOf s) (numeratorsOf s) lengths lengths (x .report)
+  report rule x a = record { answer = a .answer; reported = λ z. a .fitted z .reported; silent = λ n. a .unfitted n .silent; kept = λ _. refl }
 
-  pub one-sheet-report : (x y : SheetFit) → SheetReport s x → SheetReport s y → x ≡ y
-  one-sheet-report x y p q = same-sheet x y
-      (one-report (sheetTests s) (strainsOf s) (distancesOf s) (parentsOf s) (denominatorOf s) (numeratorsOf s) lengths lengths lengths (x .report) (y .report) (report x p) (report y q) .0)
-      (by-cases here (λ z. one-table (p .fitted z .numerators) (q .fitted z .numerators)) (λ n. p .unfitted n .numerators ∙ sym (q .unfitted n .numerators)))
-      (by-cases here (λ z. one-table (p .fitted z .rounded) (q .fitted z .rounded)) (λ n. p .unfitted n .rounded ∙ sym (q .unfitted n .rounded)))
-    where
-      here : Dec (sheetTests s ≡ pass)
-      here = passes (sheetTests s)
+  module _ (rule rule′ : Rule) (same : sheetTests rule s ≡ sheetTests rule′ s) (x y : SheetFit) (p : SheetReport rule s x) (q : SheetReport rule′ s y) where
+    here : Dec (sheetTests rule s ≡ pass)
+    here = passes (sheetTests rule s)
+
+    other : (sheetTests rule s ≡ pass → ⊥) → sheetTests rule′ s ≡ pass → ⊥
+    other n z = n (same ∙ z)
+
+    pub same-report : x ≡ y
+    same-report = same-sheet x y
+        (one-report (sheetTests rule s) rule rule′ (strainsOf s) (distancesOf s) (parentsOf s) (denominatorOf s) (numeratorsOf s) lengths lengths lengths (x .report) (y .report)
+        (report rule x p) (subst (λ (k : Answer). Report k rule′ (strainsOf s) (distancesOf s) (parentsOf s) (denominatorOf s) (numeratorsOf s) lengths lengths (y .report)) (sym same) (report rule′ y q)) .0)
+        (by-cases here (λ z. one-table (p .fitted z .numerators) (q .fitted (sym same ∙ z) .numerators)) (λ n. p .unfitted n .numerators ∙ sym (q .unfitted (other n) .numerators)))
+        (by-cases here (λ z. one-table (p .fitted z .rounded) (q .fitted (sym same ∙ z) .rounded)) (λ n. p .unfitted n .rounded ∙ sym (q .unfitted (other n) .rounded)))
+
+  pub one-sheet-report : (rule : Rule) (x y : SheetFit) → SheetReport rule s x → SheetReport rule s y → x ≡ y
+  one-sheet-report rule x y p q = same-report rule rule refl x y p q

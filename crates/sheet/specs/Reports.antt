@@ -6,6 +6,7 @@ use lib.IntN.{ℤ, pos}
 use lib.ListN.{length}
 use Rattle.exact.specs.Table.{table, entryOf}
 use Rattle.verdict.specs.Answer.{pass, answerOf}
+use Rattle.verdict.specs.declared.Rule.{Rule}
 use Rattle.trees.specs.Limits.{maxEdges}
 use Rattle.trees.specs.EdgeTable.{EdgeTable}
 use Rattle.fit.specs.Quantities.{roundedOf}
@@ -15,8 +16,8 @@ use Rattle.reporting.specs.Answers.{Reported, Silent}
 use Rattle.sheet.specs.declared.SheetFit.{SheetFit}
 
 -- an accepted sheet: its report, and the two tables
-pub record Fitted (s : List ℕ) (r : SheetFit) : Type 0 where
-  pub reported : Reported (strainsOf s) (distancesOf s) (parentsOf s) (denominatorOf s) (numeratorsOf s) (table (length (parentsOf s)) (roundedOf (denominatorOf s) (numeratorsOf s))) (r .report)
+pub record Fitted (rule : Rule) (s : List ℕ) (r : SheetFit) : Type 0 where
+  pub reported : Reported rule (strainsOf s) (distancesOf s) (parentsOf s) (denominatorOf s) (numeratorsOf s) (table (length (parentsOf s)) (roundedOf (denominatorOf s) (numeratorsOf s))) (r .report)
   pub numerators : EdgeTable (length (parentsOf s)) (entryOf (numeratorsOf s)) (r .numerators)
   pub rounded : EdgeTable (length (parentsOf s)) (roundedOf (denominatorOf s) (numeratorsOf s)) (r .rounded)
 
@@ -27,7 +28,7 @@ pub record Unfitted (r : SheetFit) : Type 0 where
   pub rounded : r .rounded ≡ table maxEdges (λ _. pos 0)
 
 -- the whole answer
-pub record SheetReport (s : List ℕ) (r : SheetFit) : Type 0 where
-  pub answer : answerOf (r .report .verdict) ≡ sheetTests s
-  pub fitted : sheetTests s ≡ pass → Fitted s r
-  pub unfitted : (sheetTests s ≡ pass → ⊥) → Unfitted r
+pub record SheetReport (rule : Rule) (s : List ℕ) (r : SheetFit) : Type 0 where
+  pub answer : answerOf (r .report .verdict) ≡ sheetTests rule s
+  pub fitted : sheetTests rule s ≡ pass → Fitted rule s r
+  pub unfitted : (sheetTests rule s ≡ pass → ⊥) → Unfitted r

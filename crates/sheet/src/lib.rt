@@ -3,6 +3,7 @@
 use reporting::FitReport;
 use tree::Tree;
 use verdict::Refusal;
+use verdict::Rule;
 use verdict::Verdict;
 ghost use mathlib.Core.Path.{_≡_};
 ghost use Rattle.verdict.specs.Answer.{answerOf, number};
@@ -17,9 +18,9 @@ pub struct SheetFit {
     pub rounded: [i64; Tree::MAX_EDGES],
 }
 
-// The answer to a sheet: 1 to 14, 16, 26, the first that applies.
-pub fn sheet_judge(s: &[u8]) -> Verdict
-    ensures { λ r. ⌜ answerOf r ≡ sheetTests (now (s .entry)) ⌝ }
+// The answer to a sheet: 1 to 14, 16, 22, 23, 26, the first that applies.
+pub fn sheet_judge(rule: Rule, s: &[u8]) -> Verdict
+    ensures { λ r. ⌜ answerOf r ≡ sheetTests rule (now (s .entry)) ⌝ }
 {
     let sheet = reading::read(s, 3);
     let of_reader = sheet.verdict;
@@ -33,6 +34,7 @@ pub fn sheet_judge(s: &[u8]) -> Verdict
     let distances = sheet.distances;
     let numerators = sheet.numerators;
     judging::judge_proposal(
+        rule,
         sheet.strains,
         &distances[..pairs],
         &s[parents..end],
@@ -52,9 +54,9 @@ fn unfitted(refusal: Refusal) -> SheetFit
     }
 }
 
-// The report on a sheet: 1 to 14, 16, 26, the first that applies.
-pub fn sheet_report(s: &[u8]) -> SheetFit
-    ensures { λ r. ⌜ SheetReport (now (s .entry)) r ⌝ }
+// The report on a sheet: 1 to 14, 16, 22, 23, 26, the first that applies.
+pub fn sheet_report(rule: Rule, s: &[u8]) -> SheetFit
+    ensures { λ r. ⌜ SheetReport rule (now (s .entry)) r ⌝ }
 {
     let sheet = reading::read(s, 3);
     let of_reader = sheet.verdict;
@@ -69,6 +71,7 @@ pub fn sheet_report(s: &[u8]) -> SheetFit
     let numerators = sheet.numerators;
     let mut rounded = lengths::no_lengths();
     let report = reporting::report_proposal(
+        rule,
         sheet.strains,
         &distances[..pairs],
         &s[parents..end],
@@ -90,7 +93,15 @@ pub fn sheet_report(s: &[u8]) -> SheetFit
 // The number that a sheet gets, for a program in C: 0 where it is accepted.
 #[no_mangle]
 pub extern "C" fn sheet_verdict(s: &[u8]) -> u32
-    ensures { λ r. ⌜ r ≡ number (sheetTests (now (s .entry))) ⌝ }
+    ensures { λ r. ⌜ r ≡ number (sheetTests Rule.Plain (now (s .entry))) ⌝ }
 {
-    verdict::number(sheet_judge(s))
+    verdict::number(sheet_judge(Rule::Plain, s))
+}
+
+// The same where no length may be negative.
+#[no_mangle]
+pub extern "C" fn sheet_verdict0(s: &[u8]) -> u32
+    ensures { λ r. ⌜ r ≡ number (sheetTests Rule.Drawable (now (s .entry))) ⌝ }
+{
+    verdict::number(sheet_judge(Rule::Drawable, s))
 }

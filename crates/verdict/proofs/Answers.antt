@@ -6,7 +6,7 @@ use native.Mathlib.Omega.{arith}
 use borrow.Author.Tests.{lt-ltb, le-ltb}
 use lib.Dec.{T, eqb, ltb}
 use Rattle.verdict.specs.declared.Reason.{Reason}
-use Rattle.verdict.specs.declared.Reason.the-variants.{SheetTooLong, RecordCut, WrongKind, WrongCounts, BytesLeft, Strains, Distance, Vertices, Parent, Children, Edges, Denominator, Numerator, Remainders, Buffer, PastRoot, Unresolved, Unmeasured}
+use Rattle.verdict.specs.declared.Reason.the-variants.{SheetTooLong, RecordCut, WrongKind, WrongCounts, BytesLeft, Strains, Distance, Vertices, Parent, Children, Edges, Denominator, Numerator, Remainders, Buffer, PastRoot, Negative, ZeroEdge, Unresolved, Unmeasured}
 use Rattle.verdict.specs.declared.Place.{Place}
 use Rattle.verdict.specs.declared.Refusal.{Refusal}
 use Rattle.verdict.specs.declared.Verdict.{Verdict}
@@ -22,8 +22,8 @@ reasonOf k =
     cond (eqb k 5) BytesLeft (cond (eqb k 6) Strains (cond (eqb k 7) Distance (cond (eqb k 8) Vertices (
     cond (eqb k 9) Parent (cond (eqb k 10) Children (cond (eqb k 11) Edges (cond (eqb k 12) Denominator (
     cond (eqb k 13) Numerator (cond (eqb k 14) Remainders (cond (eqb k 15) Buffer (
-    cond (eqb k 16) PastRoot (
-    cond (eqb k 25) Unresolved Unmeasured))))))))))))))))
+    cond (eqb k 16) PastRoot (cond (eqb k 22) Negative (cond (eqb k 23) ZeroEdge (
+    cond (eqb k 25) Unresolved Unmeasured))))))))))))))))))
 
 abbrev verdictOf : Answer → Verdict
 verdictOf pass = Accepted
@@ -46,6 +46,8 @@ refused-back Numerator p = refl
 refused-back Remainders p = refl
 refused-back Buffer p = refl
 refused-back PastRoot p = refl
+refused-back Negative p = refl
+refused-back ZeroEdge p = refl
 refused-back Unresolved p = refl
 refused-back Unmeasured p = refl
 

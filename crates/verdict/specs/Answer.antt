@@ -3,7 +3,7 @@ use mathlib.Core.Bool.{Bool, true, false, cond}
 use Prim.Native.Nat.{ℕ}
 use lib.Dec.{ltb}
 use Rattle.verdict.specs.declared.Reason.{Reason}
-use Rattle.verdict.specs.declared.Reason.the-variants.{SheetTooLong, RecordCut, WrongKind, WrongCounts, BytesLeft, Strains, Distance, Vertices, Parent, Children, Edges, Denominator, Numerator, Remainders, Buffer, PastRoot, Unresolved, Unmeasured}
+use Rattle.verdict.specs.declared.Reason.the-variants.{SheetTooLong, RecordCut, WrongKind, WrongCounts, BytesLeft, Strains, Distance, Vertices, Parent, Children, Edges, Denominator, Numerator, Remainders, Buffer, PastRoot, Negative, ZeroEdge, Unresolved, Unmeasured}
 use Rattle.verdict.specs.declared.Place.{Place}
 use Rattle.verdict.specs.declared.Place.the-variants.{Nowhere}
 use Rattle.verdict.specs.declared.Refusal.{Refusal}
@@ -29,6 +29,8 @@ reasonNumber Numerator = 13
 reasonNumber Remainders = 14
 reasonNumber Buffer = 15
 reasonNumber PastRoot = 16
+reasonNumber Negative = 22
+reasonNumber ZeroEdge = 23
 reasonNumber Unresolved = 25
 reasonNumber Unmeasured = 26
 

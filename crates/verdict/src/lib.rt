@@ -21,6 +21,8 @@ pub enum Reason {
     Remainders,
     Buffer,
     PastRoot,
+    Negative,
+    ZeroEdge,
     Unresolved,
     Unmeasured,
 }
@@ -37,6 +39,13 @@ pub enum Place {
 pub struct Refusal {
     pub reason: Reason,
     pub place: Place,
+}
+
+// The rule of a verdict: which lengths may be proposed, and so with which tables a fit is compared. All, or, for those
+// who draw the tree, only such without a negative length.
+pub enum Rule {
+    Plain,
+    Drawable,
 }
 
 pub enum Verdict {
@@ -65,6 +74,8 @@ fn reason_number(reason: Reason) -> u32
         Reason::Remainders => 14,
         Reason::Buffer => 15,
         Reason::PastRoot => 16,
+        Reason::Negative => 22,
+        Reason::ZeroEdge => 23,
         Reason::Unresolved => 25,
         Reason::Unmeasured => 26,
     }

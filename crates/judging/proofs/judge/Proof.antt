@@ -18,8 +18,8 @@ enum-known-posted c = search needs
 returns : tie.Need-returns
 returns c = let p = c .before .before .before in
     let a = p .before .before .before .args in
-    judged (a .n) (a .distances .now) (a .parents .now) (a .d) (a .numerators .now) _
-    (refused-row (c .before .posted .given .0 .0) (p .check-posting .result) (postedTests (a .n) (a .distances .now) (a .parents .now)) (proposalTests (a .n) (a .distances .now) (a .parents .now) (a .d) (a .numerators .now)) (c .before .posted .given .1) (p .check-posting .ensures))
+    judged (a .rule) (a .n) (a .distances .now) (a .parents .now) (a .d) (a .numerators .now) _
+    (refused-row (c .before .posted .given .0 .0) (p .check-posting .result) (postedTests (a .n) (a .distances .now) (a .parents .now)) (proposalTests (a .rule) (a .n) (a .distances .now) (a .parents .now) (a .d) (a .numerators .now)) (c .before .posted .given .1) (p .check-posting .ensures))
 
 enum-told : tie.Need-enum-told
 enum-told c = search needs
@@ -32,9 +32,9 @@ judge-proposal-requires c κs = let p = c .before .before in
 returns-2 : tie.Need-returns-2
 returns-2 c = let p = c .before .before .before in
     let a = p .before .before .before .args in
-    judged (a .n) (a .distances .now) (a .parents .now) (a .d) (a .numerators .now) _
+    judged (a .rule) (a .n) (a .distances .now) (a .parents .now) (a .d) (a .numerators .now) _
     (c .judge-proposal .ensures
-    ∙ accepted-row (p .check-posting .result) (postedTests (a .n) (a .distances .now) (a .parents .now)) (proposalTests (a .n) (a .distances .now) (a .parents .now) (a .d) (a .numerators .now)) (c .before .enum-told .given .1) (p .check-posting .ensures))
+    ∙ accepted-row (p .check-posting .result) (postedTests (a .n) (a .distances .now) (a .parents .now)) (proposalTests (a .rule) (a .n) (a .distances .now) (a .parents .now) (a .d) (a .numerators .now)) (c .before .enum-told .given .1) (p .check-posting .ensures))
 
 pub judge-spec : {M : Type 1} → statement M
 judge-spec =

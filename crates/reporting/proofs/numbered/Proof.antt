@@ -24,12 +24,12 @@ clusters-requires c κs = search needs
 rounded-requires : tie.Need-rounded-requires
 rounded-requires c κs = let s = c .before .before .before in
     let l = s .pre .0 .lengths in
-    ((edges-few _ _ _ _ _ (s .pre .0), l .one), in-range l)
+    ((edges-few _ _ _ _ _ _ (s .pre .0), l .one), in-range l)
 
 sum-f-requires : tie.Need-sum-f-requires
 sum-f-requires c κs = let s = c .before .before .before .before .before in
     let p = s .pre .0 in
-    (ready (s .args .n) (s .args .parents .now) _ (c .before .before .clusters .ensures) (posted _ _ _ _ _ p) (p .lengths), (in-range (p .lengths), f-fits _ _ _ _ _ p))
+    (ready (s .args .n) (s .args .parents .now) _ (c .before .before .clusters .ensures) (posted _ _ _ _ _ _ p) (p .lengths), (in-range (p .lengths), f-fits _ _ _ _ _ _ p))
 
 slice-aggregate-sum-squares : tie.Need-slice-aggregate-sum-squares
 slice-aggregate-sum-squares c = search needs
@@ -38,10 +38,10 @@ sum-squares-requires : tie.Need-sum-squares-requires
 sum-squares-requires c κs = let s = c .before .before .before .before .before .before .before .before in
     let p = s .pre .0 in
     let e = c .before .before .before .before .rounded .ensures in
-    (ready-rounded _ _ _ _ _ p _ e (standing (s .args .n) (s .args .parents .now) _ (c .before .before .before .before .before .clusters .ensures) (p .tree)), r-fits _ _ _ _ _ p _ e)
+    (ready-rounded _ _ _ _ _ _ p _ e (standing (s .args .n) (s .args .parents .now) _ (c .before .before .before .before .before .clusters .ensures) (p .tree)), r-fits _ _ _ _ _ _ p _ e)
 
 total-requires : tie.Need-total-requires
-total-requires c κs = let s = c .before .before .before .before .before .before .before .before .before in (edges-few _ _ _ _ _ (s .pre .0), in-range (s .pre .0 .lengths))
+total-requires c κs = let s = c .before .before .before .before .before .before .before .before .before in (edges-few _ _ _ _ _ _ (s .pre .0), in-range (s .pre .0 .lengths))
 
 copy-out-requires : tie.Need-copy-out-requires
 copy-out-requires c κs = search needs
@@ -62,16 +62,16 @@ returns c = let s = c .before .before .before .before .before .before .before .b
         strains = refl;
         edges = refl;
         denominator = refl;
-        total = toZ-ofZ {w = w64} {z = c .before .before .before .before .before .before .total .result} (fits-abs _ (omega (arith, ap natAbs (c .before .before .before .before .before .before .total .ensures ∙ total-is _ _ _ _ _ p), total-near _ _ _ _ _ p)))
-            ∙ c .before .before .before .before .before .before .total .ensures ∙ total-is _ _ _ _ _ p;
-        f = toZ-ofZ {w = w64} {z = c .before .before .before .before .before .before .before .before .before .before .sum-f .result} (fits-of _ _ (c .before .before .before .before .before .before .before .before .before .before .sum-f .ensures) (f-fits _ _ _ _ _ p)) ∙ c .before .before .before .before .before .before .before .before .before .before .sum-f .ensures;
-        r = toZ-ofZ {w = w64} {z = sums .sum-squares .result .r} (fits-of _ _ (sums .sum-squares .ensures .0) (r-fits _ _ _ _ _ p _ e)) ∙ sums .sum-squares .ensures .0 ∙ r-same _ _ _ _ _ p _ e;
-        h = toZ-ofZ {w = w64} {z = sums .sum-squares .result .h} (fits-of _ _ (sums .sum-squares .ensures .1) (h-fits _ _ _ _ _ p)) ∙ sums .sum-squares .ensures .1;
+        total = toZ-ofZ {w = w64} {z = c .before .before .before .before .before .before .total .result} (fits-abs _ (omega (arith, ap natAbs (c .before .before .before .before .before .before .total .ensures ∙ total-is _ _ _ _ _ _ p), total-near _ _ _ _ _ _ p)))
+            ∙ c .before .before .before .before .before .before .total .ensures ∙ total-is _ _ _ _ _ _ p;
+        f = toZ-ofZ {w = w64} {z = c .before .before .before .before .before .before .before .before .before .before .sum-f .result} (fits-of _ _ (c .before .before .before .before .before .before .before .before .before .before .sum-f .ensures) (f-fits _ _ _ _ _ _ p)) ∙ c .before .before .before .before .before .before .before .before .before .before .sum-f .ensures;
+        r = toZ-ofZ {w = w64} {z = sums .sum-squares .result .r} (fits-of _ _ (sums .sum-squares .ensures .0) (r-fits _ _ _ _ _ _ p _ e)) ∙ sums .sum-squares .ensures .0 ∙ r-same _ _ _ _ _ _ p _ e;
+        h = toZ-ofZ {w = w64} {z = sums .sum-squares .result .h} (fits-of _ _ (sums .sum-squares .ensures .1) (h-fits _ _ _ _ _ _ p)) ∙ sums .sum-squares .ensures .1;
         mean = c .before .mean-over .ensures;
-        rounded = rounded-is _ _ _ _ _ p _ e _ (c .before .before .before .copy-out .ensures);
+        rounded = rounded-is _ _ _ _ _ _ p _ e _ (c .before .before .before .copy-out .ensures);
         stands = p;
-        least = least _ _ _ _ _ p;
-        near = total-near _ _ _ _ _ p;
+        least = least _ _ _ _ _ _ p;
+        near = total-near _ _ _ _ _ _ p;
       },
     )
 

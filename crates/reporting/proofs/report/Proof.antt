@@ -16,7 +16,7 @@ silent-requires c κs = search needs
 returns : tie.Need-returns
 returns c = let found = c .before .before in
     let j = found .before .before in
-    report-refused _ _ _ _ _ _ (j .check-posting .result) (j .check-posting .ensures) (found .posted .given .0 .0) (c .silent .result) (found .posted .given .1) (c .silent .ensures .0) (c .silent .ensures .1)
+    report-refused _ _ _ _ _ _ _ (j .check-posting .result) (j .check-posting .ensures) (found .posted .given .0 .0) (c .silent .result) (found .posted .given .1) (c .silent .ensures .0) (c .silent .ensures .1)
 
 enum-told : tie.Need-enum-told
 enum-told c = search needs
@@ -25,7 +25,7 @@ report-proposal-requires : tie.Need-report-proposal-requires
 report-proposal-requires c κs = let told = c .before in
     let j = told .before .before in
     let a = j .before .before .before .args in
-    report-posted (a .n) (a .distances .now) (a .parents .now) (a .d) (a .numerators .now) (a .rounded .now) (j .check-posting .result) (j .check-posting .ensures) (told .enum-told .given .1)
+    report-posted (a .rule) (a .n) (a .distances .now) (a .parents .now) (a .d) (a .numerators .now) (a .rounded .now) (j .check-posting .result) (j .check-posting .ensures) (told .enum-told .given .1)
 
 same-length : tie.Need-same-length
 same-length c = search needs
@@ -34,7 +34,7 @@ returns-2 : tie.Need-returns-2
 returns-2 c = let n = c .before in
     let told = n .before .before in
     let j = told .before .before in
-    report-proposal _ _ _ _ _ _ (j .check-posting .result) (j .check-posting .ensures) (told .enum-told .given .1) _ (n .report-proposal .result) (n .report-proposal .ensures)
+    report-proposal _ _ _ _ _ _ _ (j .check-posting .result) (j .check-posting .ensures) (told .enum-told .given .1) _ (n .report-proposal .result) (n .report-proposal .ensures)
 
 pub report-spec : {M : Type 1} → statement M
 report-spec =

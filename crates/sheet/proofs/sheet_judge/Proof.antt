@@ -24,7 +24,7 @@ enum-known-of-reader : tie.Need-enum-known-of-reader
 enum-known-of-reader c = search needs
 
 returns : tie.Need-returns
-returns c = let r = c .before .before .before in refused-whole _ (r .read .result) (c .before .of-reader .given .0 .0) (r .read .ensures) (c .before .of-reader .given .1)
+returns c = let r = c .before .before .before in refused-whole (r .before .before .args .rule) _ (r .read .result) (c .before .of-reader .given .0 .0) (r .read .ensures) (c .before .of-reader .given .1)
 
 enum-told : tie.Need-enum-told
 enum-told c = search needs
@@ -56,8 +56,8 @@ judge-proposal-requires c κs = let told = c .before .before .before .before .be
 returns-2 : tie.Need-returns-2
 returns-2 c = let told = c .before .before .before .before .before .before in
     let r = told .before .before in
-    of-lengths (held told) (proposed told) (λ n ds ps d ns. answerOf (c .judge-proposal .result) ≡ proposalTests n ds ps d ns) (c .judge-proposal .ensures)
-    ∙ sym (sheet-asked (r .before .before .args .s .now) (accepted 3 _ (r .read .result) (r .read .ensures) (told .enum-told .given .1)))
+    of-lengths (held told) (proposed told) (λ n ds ps d ns. answerOf (c .judge-proposal .result) ≡ proposalTests (r .before .before .args .rule) n ds ps d ns) (c .judge-proposal .ensures)
+    ∙ sym (sheet-asked (r .before .before .args .rule) (r .before .before .args .s .now) (accepted 3 _ (r .read .result) (r .read .ensures) (told .enum-told .given .1)))
 
 pub sheet-judge-spec : {M : Type 1} → statement M
 sheet-judge-spec =

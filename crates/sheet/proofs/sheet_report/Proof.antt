@@ -28,7 +28,7 @@ unfitted-requires c κs = search needs
 
 returns : tie.Need-returns
 returns c = let r = c .before .before .before .before in
-    refused-sheet _ (c .unfitted .result) (c .before .before .of-reader .given .0 .0) (c .unfitted .ensures .0) (c .unfitted .ensures .1) (refused-whole _ (r .read .result) (c .before .before .of-reader .given .0 .0) (r .read .ensures) (c .before .before .of-reader .given .1))
+    refused-sheet _ _ (c .unfitted .result) (c .before .before .of-reader .given .0 .0) (c .unfitted .ensures .0) (c .unfitted .ensures .1) (refused-whole (r .before .before .args .rule) _ (r .read .result) (c .before .before .of-reader .given .0 .0) (r .read .ensures) (c .before .before .of-reader .given .1))
 
 enum-told : tie.Need-enum-told
 enum-told c = search needs
@@ -60,12 +60,12 @@ slice-aggregate-report-proposal-2 c = proposed (c .before .before .before .befor
 array-borrow-prefix-rounded : tie.Need-array-borrow-prefix-rounded
 array-borrow-prefix-rounded c = let told = c .before .before .before .before .before .before in
     let r = told .before .before in
-    front-there _ (r .read .result) (r .read .ensures) (told .enum-told .given .1) _ (c .before .before .before .no-lengths .ensures)
+    front-there (r .before .before .args .rule) _ (r .read .result) (r .read .ensures) (told .enum-told .given .1) _ (c .before .before .before .no-lengths .ensures)
 
 slice-aggregate-report-proposal-3 : tie.Need-slice-aggregate-report-proposal-3
 slice-aggregate-report-proposal-3 c = let told = c .before .before .before .before .before .before .before in
     let r = told .before .before in
-    front-size _ (r .read .result) (r .read .ensures) (told .enum-told .given .1) _ (c .before .before .before .before .no-lengths .ensures)
+    front-size (r .before .before .args .rule) _ (r .read .result) (r .read .ensures) (told .enum-told .given .1) _ (c .before .before .before .before .no-lengths .ensures)
 
 report-proposal-requires : tie.Need-report-proposal-requires
 report-proposal-requires c κs = let told = c .before .before .before .before .before .before .before in to-parts (held told) Posted (read-posted _ _ (told .before .before .read .ensures) (told .enum-told .given .1))
@@ -84,14 +84,14 @@ returns-2 c = let found = c .before .before in
     let done = found .before .before .before in
     let told = done .before .before .before .before .before .before .before .before in
     let r = told .before .before in
-    refused-sheet _ (c .unfitted2 .result) (found .found .given .0 .0) (c .unfitted2 .ensures .0) (c .unfitted2 .ensures .1)
-    (sym (ap answerOf (found .found .given .1)) ∙ asked _ (r .read .result) (r .read .ensures) (told .enum-told .given .1) _ (done .before .before .before .before .before .no-lengths .ensures) _ (done .report-proposal .result) (done .report-proposal .ensures))
+    refused-sheet _ _ (c .unfitted2 .result) (found .found .given .0 .0) (c .unfitted2 .ensures .0) (c .unfitted2 .ensures .1)
+    (sym (ap answerOf (found .found .given .1)) ∙ asked _ _ (r .read .result) (r .read .ensures) (told .enum-told .given .1) _ (done .before .before .before .before .before .no-lengths .ensures) _ (done .report-proposal .result) (done .report-proposal .ensures))
 
 returns-3 : tie.Need-returns-3
 returns-3 c = let done = c .before .before .before in
     let told = done .before .before .before .before .before .before .before .before in
     let r = told .before .before in
-    fitted-sheet _ (r .read .result) (r .read .ensures) (told .enum-told .given .1) _ (done .before .before .before .before .before .no-lengths .ensures) _ (done .report-proposal .result) (done .report-proposal .ensures) (c .enum-told2 .given .1)
+    fitted-sheet _ _ (r .read .result) (r .read .ensures) (told .enum-told .given .1) _ (done .before .before .before .before .before .no-lengths .ensures) _ (done .report-proposal .result) (done .report-proposal .ensures) (c .enum-told2 .given .1)
 
 pub sheet-report-spec : {M : Type 1} → statement M
 sheet-report-spec =
