@@ -25,7 +25,8 @@ use Rattle.reading.specs.Tests.{sheetTests}
 use Rattle.reporting.specs.Answers.{Reported}
 use Rattle.sheet.specs.declared.SheetFit.{SheetFit}
 use Rattle.sheet.specs.Reports.{Fitted, SheetReport}
-use Rattle.prints.specs.Texts.{reportText, fitOfSheet, sheetText, Shown}
+use Rattle.showing.specs.Texts.{reportText}
+use Rattle.prints.specs.Texts.{fitOfSheet, sheetText, Shown}
 use Rattle.prints.proofs.Texts.{text-by-answer, fits-page, whole-page}
 
 -- rows that agree at the edges have the same lines

@@ -1,34 +1,21 @@
 -- The text of an answer.
--- `shows-refusal`, `shows-accepted`: what was written is the text that the verdict asks for. `text-by-answer`: that text is the print
--- of whatever gives the same answer. `fits-page`, `whole-page`, `small-page`: it ends within a page. `one-shown`: one text and one buffer.
-use mathlib.Core.Path.{_≡_, refl, sym, _∙_, ap, subst}
+-- `text-by-answer`: the text that a verdict asks for is the print of whatever gives the same answer. `fits-page`, `whole-page`, `small-page`: it ends within a page. `one-shown`: one text and one buffer.
+use mathlib.Core.Path.{_≡_, refl, sym, _∙_, ap}
 use mathlib.Core.List.{List}
 use Prim.Native.Nat.{ℕ, _≤_, _<_}
 use native.Mathlib.Decide.{decLt}
 use native.Mathlib.Omega.{arith}
 use lib.ListN.{length}
 use Rattle.exact.proofs.Decide.{by-cases}
-use Rattle.verdict.specs.Answer.{Answer, pass, fault, answerOf, reasonNumber}
-use Rattle.verdict.specs.declared.Refusal.{Refusal}
+use Rattle.verdict.specs.Answer.{Answer, pass, fault, answerOf}
 use Rattle.verdict.specs.declared.Verdict.{Verdict}
-use Rattle.verdict.specs.declared.Verdict.the-variants.{Accepted, Refused}
 use Rattle.text.specs.Text.{Wrote}
 use Rattle.text.proofs.Settled.{settled}
 use Rattle.text.proofs.Writing.{wrote-length}
-use Rattle.lines.specs.Lines.{refusedLine}
 use Rattle.lines.specs.Page.{pageSize}
 use Rattle.lines.proofs.Sizes.{refused-length}
-use Rattle.prints.specs.Texts.{byAnswer, Shown}
-
--- ---- by the verdict
-module _ (v : Verdict) (fit before after : List ℕ) (next : ℕ) where
-  pub shows-refusal : (r : Refusal) (number : ℕ) → v ≡ Refused r → number ≡ reasonNumber (r .reason)
-      → Wrote before after 0 (refusedLine number (r .place)) next → Wrote before after 0 (byAnswer (answerOf v) fit) next
-  shows-refusal r number e f w =
-      subst (λ (t : List ℕ). Wrote before after 0 t next) (ap (λ (k : ℕ). refusedLine k (r .place)) f ∙ sym (ap (λ (u : Verdict). byAnswer (answerOf u) fit) e)) w
-
-  pub shows-accepted : v ≡ Accepted → Wrote before after 0 fit next → Wrote before after 0 (byAnswer (answerOf v) fit) next
-  shows-accepted e w = subst (λ (t : List ℕ). Wrote before after 0 t next) (sym (ap (λ (u : Verdict). byAnswer (answerOf u) fit) e)) w
+use Rattle.showing.specs.Texts.{byAnswer}
+use Rattle.prints.specs.Texts.{Shown}
 
 -- ---- by the answer
 same-fit : (a : Answer) (own fit : List ℕ) → (a ≡ pass → own ≡ fit) → byAnswer a own ≡ byAnswer a fit

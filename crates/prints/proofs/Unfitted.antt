@@ -19,7 +19,8 @@ use Rattle.lines.proofs.Sizes.{resolved-text-length}
 use Rattle.reading.specs.Holds.{strainsOf, distancesOf, parentsOf}
 use Rattle.unfitted.specs.declared.UnfittedFit.{UnfittedFit}
 use Rattle.unfitted.specs.Fits.{unfittedTests, Fitted, UnfittedAnswer}
-use Rattle.prints.specs.Texts.{directText, fitOfUnfitted, unfittedText, Shown}
+use Rattle.showing.specs.Texts.{directText}
+use Rattle.prints.specs.Texts.{fitOfUnfitted, unfittedText, Shown}
 use Rattle.prints.proofs.Texts.{text-by-answer, fits-page, whole-page}
 use Rattle.prints.proofs.Sheets.{rows-cong}
 

@@ -1,34 +1,20 @@
 -- The prints as functions of a sheet's bytes, and what a writer of one leaves.
 use mathlib.Core.Path.{_≡_}
 use mathlib.Core.List.{List}
-use Prim.Native.Nat.{ℕ, _*_, _≤_, _<_}
-use lib.IntN.{pos}
-use lib.ListN.{length, getD}
+use Prim.Native.Nat.{ℕ, _≤_, _<_}
+use lib.ListN.{length}
 use Rattle.exact.specs.Table.{entryOf}
-use Rattle.verdict.specs.Answer.{Answer, pass, fault, answerOf}
 use Rattle.verdict.specs.declared.Rule.{Rule}
 use Rattle.mean.specs.Mean.{meanOf}
 use Rattle.fit.specs.Quantities.{treeLength, fOf, rOf, hOf, roundedOf}
 use Rattle.resolution.specs.Lengths.{topOf, bottomOf, thousandthOf, squareOf}
 use Rattle.text.specs.Text.{Wrote}
-use Rattle.lines.specs.Lines.{refusedLine, fitText, resolvedText}
+use Rattle.lines.specs.Lines.{fitText, resolvedText}
 use Rattle.lines.specs.Page.{pageSize}
 use Rattle.reading.specs.Holds.{strainsOf, distancesOf, parentsOf, denominatorOf, numeratorsOf}
 use Rattle.reading.specs.Tests.{sheetTests}
-use Rattle.sheet.specs.declared.SheetFit.{SheetFit}
-use Rattle.unfitted.specs.declared.UnfittedFit.{UnfittedFit}
 use Rattle.unfitted.specs.Fits.{unfittedTests}
-
--- a print by its answer: the fit, or `refused`, the number and the place
-abbrev pub byAnswer : Answer → List ℕ → List ℕ
-byAnswer pass fit = fit
-byAnswer (fault k p) fit = refusedLine k p
-
--- of a report, with its two tables
-abbrev pub reportText : Rule → SheetFit → List ℕ
-reportText rule x =
-    byAnswer (answerOf (x .report .verdict))
-    (fitText rule (x .report .strains) (x .report .edges) (x .report .denominator) (entryOf (x .numerators)) (entryOf (x .rounded)) (x .report .length) (x .report .f) (x .report .r) (x .report .h) (x .report .mean))
+use Rattle.showing.specs.Texts.{byAnswer}
 
 -- fit or fit0, N K D; edge, n, m for each edge; the tree length's numerator; F, R, H; the mean square
 abbrev pub fitOfSheet : Rule → List ℕ → List ℕ
@@ -42,12 +28,6 @@ fitOfSheet rule s =
 -- the print of a sheet by a rule
 abbrev pub sheetText : Rule → List ℕ → List ℕ
 sheetText rule s = byAnswer (sheetTests rule s) (fitOfSheet rule s)
-
--- of a direct fit, with its three tables
-abbrev pub directText : UnfittedFit → List ℕ
-directText x =
-    byAnswer (answerOf (x .fit .verdict))
-    (resolvedText (x .strains) (x .edges) (entryOf (x .tops)) (λ v. getD (x .bottoms) v 0) (entryOf (x .rounded)) (x .fit .r) (x .fit .h))
 
 -- resolved N K; edge, the numerator and the denominator of its length, m for each edge; R, H
 abbrev pub fitOfUnfitted : List ℕ → List ℕ

@@ -1,17 +1,10 @@
 // What the programs show: the print of a sheet, with its lengths or without, at the front of a lent buffer of a page
 // or more.
-use sheet::SheetFit;
-use unfitted::UnfittedFit;
 use verdict::Rule;
-use verdict::Verdict;
 ghost use mathlib.Core.Path.{_≡_};
-ghost use Prim.Native.Nat.{_≤_};
-ghost use lib.ListN.{length};
 ghost use Rattle.exact.specs.Table.{table};
-ghost use Rattle.text.specs.Text.{Wrote};
 ghost use Rattle.lines.specs.Page.{pageSize};
-ghost use Rattle.trees.specs.Limits.{maxEdges};
-ghost use Rattle.prints.specs.Texts.{reportText, sheetText, directText, unfittedText, Shown};
+ghost use Rattle.prints.specs.Texts.{sheetText, unfittedText, Shown};
 
 // The bytes of a page: every print fits one.
 pub const PAGE: usize = 16_384;
@@ -23,39 +16,6 @@ pub fn page() -> [u8; PAGE]
     [0; PAGE]
 }
 
-// The print of a report with its two tables.
-fn report_text(rule: Rule, fit: SheetFit, text: &mut [u8]) -> usize
-    requires { ⌜ fit .report .edges ≤ maxEdges ⌝ }
-    requires { ⌜ pageSize ≤ length (now text) ⌝ }
-    ensures { λ r. ⌜ Wrote (now (text .entry)) (now (text .exit)) 0 (reportText rule fit) r ⌝ }
-{
-    let report = fit.report;
-    let verdict = report.verdict;
-    let mean = report.mean;
-    let numerators = fit.numerators;
-    let rounded = fit.rounded;
-    match verdict {
-        Verdict::Refused(refusal) => {
-            let place = refusal.place;
-            lines::refused_line(text, 0, verdict::number(Verdict::Refused(refusal)), place)
-        }
-        Verdict::Accepted => print::fit_text(
-            text,
-            rule,
-            report.strains,
-            report.edges,
-            report.denominator,
-            &numerators,
-            &rounded,
-            report.length,
-            report.f,
-            report.r,
-            report.h,
-            mean,
-        ),
-    }
-}
-
 // The print of a sheet by a rule, at the front of a buffer of a page or more; a smaller one is left as it was. The
 // result is how many bytes the print has, 0 where the buffer is too small.
 fn print_by(rule: Rule, s: &[u8], text: &mut [u8]) -> usize
@@ -64,7 +24,7 @@ fn print_by(rule: Rule, s: &[u8], text: &mut [u8]) -> usize
     if text.len() < PAGE {
         return 0;
     }
-    report_text(rule, sheet::sheet_report(rule, s), text)
+    showing::report_text(rule, sheet::sheet_report(rule, s), text)
 }
 
 // The print of a sheet, for a program in C too, at the front of a buffer of a page or more; a smaller one is left as it
@@ -84,35 +44,6 @@ pub extern "C" fn sheet_print0(s: &[u8], text: &mut [u8]) -> usize
     print_by(Rule::Drawable, s, text)
 }
 
-// The print of a direct fit with its three tables.
-fn direct_text(fit: UnfittedFit, text: &mut [u8]) -> usize
-    requires { ⌜ fit .edges ≤ maxEdges ⌝ }
-    requires { ⌜ pageSize ≤ length (now text) ⌝ }
-    ensures { λ r. ⌜ Wrote (now (text .entry)) (now (text .exit)) 0 (directText fit) r ⌝ }
-{
-    let numbers = fit.fit;
-    let verdict = numbers.verdict;
-    let tops = fit.tops;
-    let bottoms = fit.bottoms;
-    let rounded = fit.rounded;
-    match verdict {
-        Verdict::Refused(refusal) => {
-            let place = refusal.place;
-            lines::refused_line(text, 0, verdict::number(Verdict::Refused(refusal)), place)
-        }
-        Verdict::Accepted => print::resolved_text(
-            text,
-            fit.strains,
-            fit.edges,
-            &tops,
-            &bottoms,
-            &rounded,
-            numbers.r,
-            numbers.h,
-        ),
-    }
-}
-
 // The print of a sheet without lengths, for a program in C too, at the front of a buffer of a page or more; a smaller
 // one is left as it was. The result is how many bytes the print has, 0 where the buffer is too small.
 #[no_mangle]
@@ -122,5 +53,5 @@ pub extern "C" fn unfitted_print(s: &[u8], text: &mut [u8]) -> usize
     if text.len() < PAGE {
         return 0;
     }
-    direct_text(unfitted::unfitted_fit(s), text)
+    showing::direct_text(unfitted::unfitted_fit(s), text)
 }

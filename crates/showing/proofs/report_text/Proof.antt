@@ -1,10 +1,10 @@
 -- The verdict says which text is due.
 use mir.Syntax.{w64}
 use mir.Facts.{toZ-ofZ}
-use Rattle.prints.proofs.Texts.{shows-refusal, shows-accepted}
+use Rattle.showing.proofs.Texts.{shows-refusal, shows-accepted}
 use borrow.Author.Needs.{needs}
-use Rattle.prints.proofs.report_text.Statement.{statement}
-use Rattle.prints.proofs.report_text.Tie as tie
+use Rattle.showing.proofs.report_text.Statement.{statement}
+use Rattle.showing.proofs.report_text.Tie as tie
 
 enum-known-verdict : tie.Need-enum-known-verdict
 enum-known-verdict c = search needs
