@@ -2,7 +2,7 @@
 use mathlib.Core.Path.{_∙_}
 use native.Mathlib.Omega.{arith}
 use lib.ListN.{length}
-use Rattle.judging.proofs.Faults.{same-sums}
+use Rattle.balancing.proofs.Faults.{same-sums}
 use Rattle.pairs.proofs.Lent.{ready, in-range}
 use borrow.Author.Needs.{needs}
 use Rattle.judging.proofs.check_sums.Statement.{statement}

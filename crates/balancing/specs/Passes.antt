@@ -6,8 +6,8 @@ use lib.IntN.{ℤ, pos, natAbs}
 use lib.Signed.{ltZ}
 use Rattle.verdict.specs.Answer.{Answer, fault, atFirst}
 use Rattle.verdict.specs.declared.Place.the-variants.{EdgeSum}
-use Rattle.judging.specs.declared.Pass.{Pass}
-use Rattle.judging.specs.declared.Pass.the-variants.{All, Positive, Zero}
+use Rattle.balancing.specs.declared.Pass.{Pass}
+use Rattle.balancing.specs.declared.Pass.the-variants.{All, Positive, Zero}
 
 -- an edge with the numerator n and the sum x is at fault
 abbrev pub faultBy : Pass → ℤ → ℤ → Bool

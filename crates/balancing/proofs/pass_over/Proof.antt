@@ -11,14 +11,14 @@ use Prim.Native.Nat.{ℕ, _≤_, _<_, _-_}
 use native.Mathlib.Omega.{arith}
 use borrow.Author.Count.{below-none, below-more}
 use Rattle.exact.specs.Table.{entryOf}
-use Rattle.judging.specs.Passes.{faultBy}
-use Rattle.judging.proofs.Faults.{found, none-found}
-use Rattle.judging.proofs.pass_over.Statement.{statement}
-use Rattle.judging.proofs.pass_over.Tie as tie
-use Rattle.judging.proofs.pass_over.Reads as reads
-use Rattle.judging.proofs.pass_over.Lts as lts
-use Rattle.judging.proofs.at_fault.Reads as at-fault-reads
-use Rattle.judging.proofs.reason_of.Reads as reason-of-reads
+use Rattle.balancing.specs.Passes.{faultBy}
+use Rattle.balancing.proofs.Faults.{found, none-found}
+use Rattle.balancing.proofs.pass_over.Statement.{statement}
+use Rattle.balancing.proofs.pass_over.Tie as tie
+use Rattle.balancing.proofs.pass_over.Reads as reads
+use Rattle.balancing.proofs.pass_over.Lts as lts
+use Rattle.balancing.proofs.at_fault.Reads as at-fault-reads
+use Rattle.balancing.proofs.reason_of.Reads as reason-of-reads
 
 abbrev Inv-loop : tie.InvT-loop
 Inv-loop pass edges sums numerators v₀ v = (v ≤ edges) × ((i : ℕ) → i < v → faultBy pass (entryOf numerators i) (entryOf sums i) ≡ false)

@@ -2,8 +2,8 @@
 use mir.Facts.{toZ-ofZ}
 use Rattle.fit.proofs.Zeros.{bits-zero, bits-pass, bits-fail}
 use borrow.Author.Needs.{needs}
-use Rattle.judging.proofs.at_fault.Statement.{statement}
-use Rattle.judging.proofs.at_fault.Tie as tie
+use Rattle.balancing.proofs.at_fault.Statement.{statement}
+use Rattle.balancing.proofs.at_fault.Tie as tie
 
 enum-told : tie.Need-enum-told
 enum-told c = search needs

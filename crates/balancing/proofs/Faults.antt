@@ -10,9 +10,9 @@ use Rattle.verdict.specs.declared.Rule.the-variants.{Plain, Drawable}
 use Rattle.verdict.proofs.Answers.{at-first, at-none, atFirst-cong}
 use Rattle.verdict.proofs.Table.{first-is, some-no}
 use Rattle.fit.specs.Tests.{balanceTests}
-use Rattle.judging.specs.declared.Pass.{Pass}
-use Rattle.judging.specs.declared.Pass.the-variants.{All, Positive, Zero}
-use Rattle.judging.specs.Passes.{faultBy, numberBy, passTests}
+use Rattle.balancing.specs.declared.Pass.{Pass}
+use Rattle.balancing.specs.declared.Pass.the-variants.{All, Positive, Zero}
+use Rattle.balancing.specs.Passes.{faultBy, numberBy, passTests}
 
 module _ (q : Pass) (K : ℕ) (n x : ℕ → ℤ) where
   abbrev at : ℕ → Bool

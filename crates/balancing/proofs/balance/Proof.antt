@@ -5,8 +5,8 @@ use Rattle.verdict.specs.declared.Rule.{Rule}
 use Rattle.exact.specs.Table.{entryOf}
 use Rattle.fit.specs.Tests.{balanceTests}
 use borrow.Author.Needs.{needs}
-use Rattle.judging.proofs.balance.Statement.{statement}
-use Rattle.judging.proofs.balance.Tie as tie
+use Rattle.balancing.proofs.balance.Statement.{statement}
+use Rattle.balancing.proofs.balance.Tie as tie
 
 enum-told : tie.Need-enum-told
 enum-told c = search needs
