@@ -334,7 +334,7 @@ struct plain_zeros plain_zeros(const uint8_t *bytes, size_t length) {
     struct plain_zeros zeros = {0};
     struct place place = {0};
     struct sheet s;
-    int64_t n[MAX_V], sums[MAX_V];
+    int64_t n[MAX_V] = {0}, sums[MAX_V];
     if (weigh(bytes, length, pass_unseen, pass, &s, n, sums, &place) == 0) {
         for (uint32_t v = 0; v < s.k; v++) {
             if (n[v] == 0 && sums[v] > 0 && zeros.above++ == 0) {

@@ -90,12 +90,20 @@ pub fn sheet_report(rule: Rule, s: &[u8]) -> SheetFit
     }
 }
 
+// The number that a sheet gets by a rule. The entries for C share it: a number goes back in a register, so the tables of the sheet
+// are judged where they were read, which a verdict handed back in memory would prevent.
+fn sheet_number(rule: Rule, s: &[u8]) -> u32
+    ensures { λ r. ⌜ r ≡ number (sheetTests rule (now (s .entry))) ⌝ }
+{
+    verdict::number(sheet_judge(rule, s))
+}
+
 // The number that a sheet gets, for a program in C: 0 where it is accepted.
 #[no_mangle]
 pub extern "C" fn sheet_verdict(s: &[u8]) -> u32
     ensures { λ r. ⌜ r ≡ number (sheetTests Rule.Plain (now (s .entry))) ⌝ }
 {
-    verdict::number(sheet_judge(Rule::Plain, s))
+    sheet_number(Rule::Plain, s)
 }
 
 // The same where no length may be negative.
@@ -103,5 +111,5 @@ pub extern "C" fn sheet_verdict(s: &[u8]) -> u32
 pub extern "C" fn sheet_verdict0(s: &[u8]) -> u32
     ensures { λ r. ⌜ r ≡ number (sheetTests Rule.Drawable (now (s .entry))) ⌝ }
 {
-    verdict::number(sheet_judge(Rule::Drawable, s))
+    sheet_number(Rule::Drawable, s)
 }
