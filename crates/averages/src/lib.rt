@@ -5,7 +5,7 @@ ghost use mathlib.Core.Path.{_≡_};
 ghost use Prim.Native.Nat.{_≤_};
 ghost use lib.IntN.{natAbs};
 ghost use Rattle.exact.specs.Fraction.{Lowest, _over_};
-ghost use Rattle.resolution.specs.Splits.{twice, endOf, outerTop, outerBottom, innerTop, innerBottom, Sized, maxSplit, maxTwice, maxEnd};
+ghost use Rattle.direct_theory.specs.Splits.{twice, endOf, outerTop, outerBottom, innerTop, innerBottom, Sized, maxSplit, maxTwice, maxEnd};
 
 // Twice the distances between two directions at a vertex of degree three, whose split sums are x and y;
 // z is the third's.

@@ -9,7 +9,7 @@ use Rattle.verdict.specs.declared.Rule.{Rule}
 use Rattle.verdict.specs.declared.Rule.the-variants.{Plain, Drawable}
 use Rattle.verdict.proofs.Answers.{at-first, at-none, atFirst-cong}
 use Rattle.verdict.proofs.Table.{first-is, some-no}
-use Rattle.fit.specs.Tests.{balanceTests}
+use Rattle.fit_theory.specs.Tests.{balanceTests}
 use Rattle.balancing.specs.declared.Pass.{Pass}
 use Rattle.balancing.specs.declared.Pass.the-variants.{All, Positive, Zero}
 use Rattle.balancing.specs.Passes.{faultBy, numberBy, passTests}

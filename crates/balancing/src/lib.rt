@@ -11,8 +11,8 @@ ghost use Prim.Native.Nat.{_≤_};
 ghost use lib.ListN.{length};
 ghost use Rattle.exact.specs.Table.{entryOf};
 ghost use Rattle.verdict.specs.Answer.{answerOf, reasonNumber};
-ghost use Rattle.trees.specs.Limits.{maxEdges};
-ghost use Rattle.fit.specs.Tests.{balanceTests};
+ghost use Rattle.tree_theory.specs.Limits.{maxEdges};
+ghost use Rattle.fit_theory.specs.Tests.{balanceTests};
 ghost use Rattle.balancing.specs.Passes.{faultBy, numberBy, passTests};
 
 // The edges that a pass over the sums is about: all, the positive ones, or those of length zero.

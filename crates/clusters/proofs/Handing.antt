@@ -15,11 +15,11 @@ use lib.Seq.{getD-set-same, getD-set-other}
 use Rattle.exact.specs.Table.{table}
 use Rattle.exact.proofs.Decide.{by-cases, eq-no}
 use Rattle.exact.proofs.Fill.{length-table, getD-table, table-is}
-use Rattle.trees.specs.Chain.{below, lift}
-use Rattle.trees.specs.Allowed.{Allowed}
-use Rattle.trees.specs.Cluster.{mask, cluster}
-use Rattle.trees.proofs.Chains.{seen, seen-start, seen-up, seen-off, seen-done, below-root}
-use Rattle.trees.proofs.Masks.{mask-cong, mask-one, mask-or, mask-none}
+use Rattle.tree_theory.specs.Chain.{below, lift}
+use Rattle.tree_theory.specs.Allowed.{Allowed}
+use Rattle.tree_theory.specs.Cluster.{mask, cluster}
+use Rattle.tree_theory.proofs.Chains.{seen, seen-start, seen-up, seen-off, seen-done, below-root}
+use Rattle.tree_theory.proofs.Masks.{mask-cong, mask-one, mask-or, mask-none}
 
 -- the masks that the handing starts from: each strain alone
 abbrev pub ownBits : ℕ → List ℕ

@@ -9,10 +9,10 @@ ghost use lib.Dec.{ltb, leb};
 ghost use lib.ListN.{length};
 ghost use Rattle.exact.specs.Table.{table};
 ghost use Rattle.matrix.specs.Limits.{maxStrains};
-ghost use Rattle.trees.specs.Limits.{maxVertices};
-ghost use Rattle.trees.specs.Chain.{parentOf};
-ghost use Rattle.trees.specs.Allowed.{Allowed};
-ghost use Rattle.trees.specs.Cluster.{bitAt, cluster};
+ghost use Rattle.tree_theory.specs.Limits.{maxVertices};
+ghost use Rattle.tree_theory.specs.Chain.{parentOf};
+ghost use Rattle.tree_theory.specs.Allowed.{Allowed};
+ghost use Rattle.tree_theory.specs.Cluster.{bitAt, cluster};
 
 // Zeros, by a function of its own: proofs then carry a name in place of every entry.
 fn no_masks() -> [u64; Tree::MAX_VERTICES]

@@ -8,7 +8,7 @@ ghost use lib.ListN.{length};
 ghost use Rattle.exact.specs.Table.{table, padded};
 ghost use Rattle.matrix.specs.Limits.{maxStrains, maxPairs};
 ghost use Rattle.matrix.specs.Place.{pairCount, fromRows};
-ghost use Rattle.trees.specs.Limits.{maxEdges};
+ghost use Rattle.tree_theory.specs.Limits.{maxEdges};
 ghost use Rattle.endian.specs.Bytes.{number, twos};
 
 // Zeros, by a function of their own: proofs then carry a name in place of every entry.

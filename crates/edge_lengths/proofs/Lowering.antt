@@ -12,7 +12,7 @@ use lib.ListN.{length, getD, set, length-set}
 use Rattle.exact.specs.Table.{table, entryOf}
 use Rattle.exact.specs.Nearest.{nearest}
 use Rattle.exact.proofs.Fill.{Filled, fill-none, fill-more, filled-whole, length-table, getD-table-const, table-is}
-use Rattle.trees.specs.Limits.{maxEdges}
+use Rattle.tree_theory.specs.Limits.{maxEdges}
 use Rattle.exact.specs.Fraction.{Fraction, lowestTop, lowestBottom}
 use Rattle.edge_lengths.specs.Tables.{Lowered}
 

@@ -2,10 +2,10 @@
 use mathlib.Core.List.{List}
 use Prim.Native.Nat.{ℕ}
 use lib.IntN.{ℤ}
-use Rattle.trees.specs.Chain.{parentOf}
+use Rattle.tree_theory.specs.Chain.{parentOf}
 use Rattle.paths.specs.Standing.{Standing}
-use Rattle.resolution.specs.Children.{Resolved}
-use Rattle.resolution.specs.Splits.{Gathered}
+use Rattle.direct_theory.specs.Children.{Resolved}
+use Rattle.direct_theory.specs.Splits.{Gathered}
 use Rattle.neighbours.specs.Listed.{Listed}
 
 -- a resolved tree with the cluster of each vertex, its children in a table, and split sums that are not too large

@@ -8,7 +8,7 @@ use lib.IntN.{ℤ, pos}
 use Rattle.exact.specs.Table.{table}
 use Rattle.exact.specs.Nearest.{nearest}
 use Rattle.exact.specs.Fraction.{Fraction, lowestTop, lowestBottom}
-use Rattle.trees.specs.Limits.{maxEdges}
+use Rattle.tree_theory.specs.Limits.{maxEdges}
 
 -- the fractions f in lowest terms in two buffers of K, and their rounding in a table, zeros behind the edges
 pub record Lowered (K : ℕ) (f : ℕ → Fraction) (ns : List ℤ) (es : List ℕ) (ms : List ℤ) : Type 0 where

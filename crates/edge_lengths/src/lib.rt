@@ -7,8 +7,8 @@ ghost use Prim.Native.Nat.{_≤_, _<_};
 ghost use lib.ListN.{length};
 ghost use Rattle.exact.specs.Table.{entryOf};
 ghost use Rattle.exact.specs.Fraction.{Lowest};
-ghost use Rattle.trees.specs.Chain.{parentOf};
-ghost use Rattle.resolution.specs.Splits.{outerBy, innerBy, lengthBy, SplitSums};
+ghost use Rattle.tree_theory.specs.Chain.{parentOf};
+ghost use Rattle.direct_theory.specs.Splits.{outerBy, innerBy, lengthBy, SplitSums};
 ghost use Rattle.edge_lengths.specs.Known.{Known};
 ghost use Rattle.edge_lengths.specs.Tables.{Lowered};
 

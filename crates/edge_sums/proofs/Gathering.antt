@@ -28,20 +28,20 @@ use Rattle.exact.proofs.Sweep.{ind-abs}
 use Rattle.exact.proofs.Sum.{sum-cong, pairs-cong, pairs-sums, S-zero, ind-yes, ind-no}
 use Rattle.matrix.specs.Limits.{maxStrains}
 use Rattle.matrix.specs.Place.{place, pairPlace, isMeasured, known, measured, distance, measuredOf, distanceOf}
-use Rattle.trees.specs.Limits.{maxEdges, maxVertices}
-use Rattle.trees.specs.Chain.{parentOf, partsPair, parts, lift, below}
-use Rattle.trees.specs.Cluster.{bitAt, mask}
-use Rattle.trees.proofs.Chains.{Below, bit, along, along-sym, parts-sym, below-true, below-root}
-use Rattle.trees.proofs.Masks.{mask-bit, mask-lt, masks-apart, bit-past}
+use Rattle.tree_theory.specs.Limits.{maxEdges, maxVertices}
+use Rattle.tree_theory.specs.Chain.{parentOf, partsPair, parts, lift, below}
+use Rattle.tree_theory.specs.Cluster.{bitAt, mask}
+use Rattle.tree_theory.proofs.Chains.{Below, bit, along, along-sym, parts-sym, below-true, below-root}
+use Rattle.tree_theory.proofs.Masks.{mask-bit, mask-lt, masks-apart, bit-past}
 use Rattle.clusters.proofs.Handing.{Handed, ownBits, hand-none, hand-more, own-done}
 use Rattle.lengths.specs.Limits.{maxNumerator}
 use Rattle.pairs.specs.Ready.{Ready, InRange, remainderAt}
 use Rattle.edge_sums.specs.Sums.{share}
 use Rattle.meeting.specs.Shares.{under, mass}
 use Rattle.meeting.specs.Meeting.{farthestWay, largestRemainder, pairMass, Carrying, Carried, Apart, Met, over, remainderByWays}
-use Rattle.fit.specs.Quantities.{partsIn}
-use Rattle.fit.proofs.Measured.{measured-path, missing-remainder}
-use Rattle.fit.proofs.Ranges.{remainder-range}
+use Rattle.fit_theory.specs.Quantities.{partsIn}
+use Rattle.fit_theory.proofs.Measured.{measured-path, missing-remainder}
+use Rattle.fit_theory.proofs.Ranges.{remainder-range}
 use Rattle.paths.proofs.Climb.{few-edges}
 use Rattle.pairs.proofs.Bounded.{in-bounds}
 use Rattle.meeting.proofs.Putting.{under-none, mass-none}

@@ -17,9 +17,9 @@ use Rattle.exact.proofs.Fill.{length-table, getD-table-const}
 use Rattle.exact.proofs.Quote.{by-ring, quote}
 use Rattle.exact.proofs.Ring.{*ℤ-oneˡ}
 use Rattle.exact.proofs.Sum.{sum-cong, sum-+, sum-*, sum-at, ind-yes}
-use Rattle.trees.specs.Limits.{maxEdges, maxVertices}
-use Rattle.trees.specs.Chain.{parentOf, below, lift, kid}
-use Rattle.trees.proofs.Chains.{bit, one-more}
+use Rattle.tree_theory.specs.Limits.{maxEdges, maxVertices}
+use Rattle.tree_theory.specs.Chain.{parentOf, below, lift, kid}
+use Rattle.tree_theory.proofs.Chains.{bit, one-more}
 use Rattle.meeting.specs.Shares.{Put, under, mass}
 use Rattle.edge_sums.specs.Rooted.{Rooted}
 use Rattle.edge_sums.specs.Sums.{HandedUp}

@@ -13,8 +13,8 @@ use Rattle.exact.specs.LeastSquares.{path}
 use Rattle.exact.proofs.Decide.{by-cases, eq-yes, eq-no, eqb-sym}
 use Rattle.exact.proofs.Quote.{by-ring, quote}
 use Rattle.exact.proofs.Sum.{sum-suc, sum-cong, sum-cut, sum-+, ind-no}
-use Rattle.trees.specs.Chain.{pass, lift, below, parts}
-use Rattle.trees.proofs.Chains.{Below, Up, bit, along, below?, below-no, below-step, not-below, lift-lift, parts-ind}
+use Rattle.tree_theory.specs.Chain.{pass, lift, below, parts}
+use Rattle.tree_theory.proofs.Chains.{Below, Up, bit, along, below?, below-no, below-step, not-below, lift-lift, parts-ind}
 use Rattle.edge_sums.specs.Meets.{Meets}
 
 both-ind : (b c : Bool) → ind (b && c) ≡ ind b *ℤ ind c

@@ -2,8 +2,8 @@
 use mathlib.Core.List.{List}
 use Prim.Native.Nat.{ℕ, _≤_, _<_}
 use lib.ListN.{length}
-use Rattle.trees.specs.Limits.{maxEdges}
-use Rattle.trees.specs.Chain.{parentOf}
+use Rattle.tree_theory.specs.Limits.{maxEdges}
+use Rattle.tree_theory.specs.Chain.{parentOf}
 
 -- K edges, and every chain goes up to the root K
 pub record Rooted (K : ℕ) (ps : List ℕ) : Type 0 where

@@ -6,9 +6,9 @@ use Rattle.exact.specs.Sum.{pairs, ind}
 use Rattle.exact.specs.LeastSquares.{edgeSum}
 use Rattle.exact.specs.Table.{entryOf}
 use Rattle.matrix.specs.Place.{distance}
-use Rattle.trees.specs.EdgeTable.{EdgeTable}
-use Rattle.trees.specs.Chain.{parentOf, partsPair}
-use Rattle.fit.specs.Quantities.{partsIn}
+use Rattle.tree_theory.specs.EdgeTable.{EdgeTable}
+use Rattle.tree_theory.specs.Chain.{parentOf, partsPair}
+use Rattle.fit_theory.specs.Quantities.{partsIn}
 use Rattle.pairs.specs.Ready.{remainderAt}
 use Rattle.meeting.specs.Shares.{under}
 

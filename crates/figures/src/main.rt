@@ -43,20 +43,20 @@ fn text_of(kind: u8, sheet: &[u8], text: &mut [u8]) -> usize
     ensures { λ r. ⌜ (r ≤ length (now (text .exit))) × (length (now (text .exit)) ≡ length (now (text .entry))) ⌝ }
 {
     if kind == 0 {
-        return prints::sheet_print(sheet, text);
+        return pages::sheet_print(sheet, text);
     }
     if kind == 2 {
-        return prints::sheet_print0(sheet, text);
+        return pages::sheet_print0(sheet, text);
     }
-    prints::unfitted_print(sheet, text)
+    pages::unfitted_print(sheet, text)
 }
 
 // Writes the print of a sheet out, in one line; whether it went out.
 fn print_line(kind: u8, sheet: &[u8]) -> bool {
-    let mut text = prints::page();
+    let mut text = pages::page();
     let written = text_of(kind, sheet, &mut text);
     in_one_line(&mut text, written);
-    desk::put_out(written, &text)
+    streams::put_out(written, &text)
 }
 
 // A byte as a wider number.
@@ -95,7 +95,7 @@ fn print_all(s: &[u8]) {
 
 fn main() {
     let mut space = room();
-    let taken = desk::take_in(&mut space);
+    let taken = streams::take_in(&mut space);
     if taken.whole {
         print_all(&space[..taken.count]);
     }

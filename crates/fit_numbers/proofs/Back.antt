@@ -19,10 +19,10 @@ use Rattle.exact.proofs.Sign.{fits-abs}
 use Rattle.matrix.specs.Limits.{missing}
 use Rattle.matrix.specs.Place.{place, measured}
 use Rattle.matrix.proofs.Looking.{read-missing}
-use Rattle.trees.specs.Limits.{maxEdges}
-use Rattle.trees.specs.Chain.{parentOf, partsPair}
+use Rattle.tree_theory.specs.Limits.{maxEdges}
+use Rattle.tree_theory.specs.Chain.{parentOf, partsPair}
 use Rattle.exact.specs.Table.{entryOf}
-use Rattle.fit.proofs.Measured.{measured-hops, missing-hops}
+use Rattle.fit_theory.proofs.Measured.{measured-hops, missing-hops}
 use Rattle.pairs.specs.Ready.{Ready, remainderAt}
 use Rattle.pairs.proofs.Remaining.{far-near, has-not, scaled, scaled-fits, remainder-fits, worked}
 use Rattle.fit_numbers.specs.Terms.{Strayed}

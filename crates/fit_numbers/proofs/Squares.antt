@@ -15,10 +15,10 @@ use Rattle.exact.proofs.Order.{nn-sq, ≤-trans}
 use Rattle.exact.proofs.Sign.{fits-abs, back}
 use Rattle.exact.proofs.Sweep.{sweep-step, sweep-nn, sweep-le, term-le}
 use Rattle.matrix.specs.Limits.{maxStrains, maxPairs}
-use Rattle.trees.specs.Limits.{maxEdges}
+use Rattle.tree_theory.specs.Limits.{maxEdges}
 use Rattle.pairs.specs.declared.Pair.{Pair}
 use Rattle.pairs.specs.Next.{Follows}
-use Rattle.fit.proofs.Ranges.{hops-sweep}
+use Rattle.fit_theory.proofs.Ranges.{hops-sweep}
 use Rattle.exact.specs.Fits.{Fits63}
 use Rattle.pairs.proofs.Turns.{PairAt}
 use Rattle.fit_numbers.proofs.Back.{between}

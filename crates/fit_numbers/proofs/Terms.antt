@@ -16,11 +16,11 @@ use Rattle.exact.proofs.Sign.{fits-abs, back, back-pos}
 use Rattle.matrix.specs.Limits.{missing}
 use Rattle.matrix.specs.Place.{distance, measured, place}
 use Rattle.matrix.proofs.Looking.{known-of}
-use Rattle.fit.specs.Quantities.{partsIn}
+use Rattle.fit_theory.specs.Quantities.{partsIn}
 use Rattle.pairs.specs.declared.Pair.{Pair}
 use Rattle.pairs.specs.Next.{Follows}
 use Rattle.pairs.specs.Ready.{Ready, InRange, remainderAt}
-use Rattle.fit.proofs.Ranges.{product-range}
+use Rattle.fit_theory.proofs.Ranges.{product-range}
 use Rattle.pairs.proofs.Bounded.{in-bounds}
 use Rattle.pairs.proofs.Remaining.{far-near, has-not}
 use Rattle.fit_numbers.specs.Terms.{termOf}

@@ -13,7 +13,7 @@ use Rattle.exact.proofs.Sum.{sum-suc}
 use Rattle.exact.proofs.Sweep.{sum-abs}
 use Rattle.exact.proofs.Sign.{fits-abs, back}
 use Rattle.exact.specs.Table.{entryOf}
-use Rattle.trees.specs.Limits.{maxEdges}
+use Rattle.tree_theory.specs.Limits.{maxEdges}
 use Rattle.lengths.specs.Limits.{maxNumerator}
 use Rattle.pairs.specs.Ready.{InRange}
 

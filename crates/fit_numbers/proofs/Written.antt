@@ -16,7 +16,7 @@ use Rattle.exact.specs.Nearest.{nearest}
 use Rattle.exact.proofs.Fill.{Filled, fill-none, fill-more, filled-whole, length-table, getD-table-const, table-is}
 use Rattle.exact.proofs.Rounding.{nearest-bound}
 use Rattle.exact.proofs.Sign.{back}
-use Rattle.trees.specs.Limits.{maxEdges}
+use Rattle.tree_theory.specs.Limits.{maxEdges}
 use Rattle.pairs.specs.Ready.{InRange}
 
 -- m of edge v, and 0 behind the edges

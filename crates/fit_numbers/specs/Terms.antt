@@ -5,8 +5,8 @@ use Prim.Native.Nat.{ℕ, _≤_}
 use lib.IntN.{ℤ, pos, _*ℤ_}
 use Rattle.exact.specs.LeastSquares.{hops}
 use Rattle.matrix.specs.Place.{distance}
-use Rattle.trees.specs.Limits.{maxEdges}
-use Rattle.fit.specs.Quantities.{partsIn}
+use Rattle.tree_theory.specs.Limits.{maxEdges}
+use Rattle.fit_theory.specs.Quantities.{partsIn}
 use Rattle.pairs.specs.Ready.{remainderAt}
 
 -- to F

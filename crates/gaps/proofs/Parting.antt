@@ -22,13 +22,13 @@ use Rattle.verdict.proofs.Table.{some-cong}
 use Rattle.matrix.specs.Limits.{maxStrains}
 use Rattle.matrix.specs.Place.{pairCount, place, isMeasured, measured}
 use Rattle.matrix.proofs.Places.{place-bound, count-more}
-use Rattle.trees.specs.Limits.{maxEdges, maxVertices}
-use Rattle.trees.specs.Chain.{parentOf, below, parts}
-use Rattle.trees.specs.Cluster.{mask, cluster}
-use Rattle.trees.proofs.Masks.{mask-zero, mask-suc, digit, mask-top, mask-lt, mask-bit}
-use Rattle.fit.specs.Quantities.{partsIn}
-use Rattle.fit.specs.Stands.{Shaped}
-use Rattle.fit.specs.Tests.{unseen}
+use Rattle.tree_theory.specs.Limits.{maxEdges, maxVertices}
+use Rattle.tree_theory.specs.Chain.{parentOf, below, parts}
+use Rattle.tree_theory.specs.Cluster.{mask, cluster}
+use Rattle.tree_theory.proofs.Masks.{mask-zero, mask-suc, digit, mask-top, mask-lt, mask-bit}
+use Rattle.fit_theory.specs.Quantities.{partsIn}
+use Rattle.fit_theory.specs.Stands.{Shaped}
+use Rattle.fit_theory.specs.Tests.{unseen}
 use Rattle.gaps.specs.Columns.{columnOf, partsColumn}
 
 -- a strain's pairs are among those of all strains

@@ -5,7 +5,7 @@ use Prim.Native.Nat.{ℕ}
 use lib.Bits.{bitAnd}
 use lib.Dec.{eqb}
 use Rattle.matrix.specs.Place.{measured}
-use Rattle.trees.specs.Cluster.{mask, bitAt}
+use Rattle.tree_theory.specs.Cluster.{mask, bitAt}
 
 abbrev pub columnOf : List ℕ → ℕ → ℕ
 columnOf ds j = mask j (λ i. measured ds (i, j))

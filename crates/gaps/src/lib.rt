@@ -9,8 +9,8 @@ ghost use Rattle.exact.specs.Table.{table};
 ghost use Rattle.verdict.specs.Table.{some, first};
 ghost use Rattle.matrix.specs.Limits.{maxStrains};
 ghost use Rattle.matrix.specs.Place.{pairCount, isMeasured};
-ghost use Rattle.fit.specs.Stands.{Shaped};
-ghost use Rattle.fit.specs.Tests.{unseen};
+ghost use Rattle.fit_theory.specs.Stands.{Shaped};
+ghost use Rattle.fit_theory.specs.Tests.{unseen};
 ghost use Rattle.gaps.specs.Columns.{columnOf, partsColumn};
 
 // Bit i, where the distance was measured.

@@ -8,8 +8,8 @@ use Rattle.verdict.specs.declared.Verdict.{Verdict}
 use Rattle.verdict.specs.declared.Verdict.the-variants.{Accepted}
 use Rattle.verdict.specs.declared.Rule.{Rule}
 use Rattle.verdict.proofs.Answers.{same-answer}
-use Rattle.fit.specs.Tests.{judgeTests}
-use Rattle.fit.proofs.Exactly.{stands→, →stands}
+use Rattle.fit_theory.specs.Tests.{judgeTests}
+use Rattle.fit_theory.proofs.Exactly.{stands→, →stands}
 use Rattle.judging.specs.Answers.{JudgeAnswer}
 
 module _ (rule : Rule) (N : ℕ) (ds ps : List ℕ) (D : ℕ) (ns : List ℤ) where

@@ -7,8 +7,8 @@ use Rattle.verdict.specs.Answer.{answerOf}
 use Rattle.verdict.specs.declared.Verdict.{Verdict}
 use Rattle.verdict.specs.declared.Verdict.the-variants.{Accepted}
 use Rattle.verdict.specs.declared.Rule.{Rule}
-use Rattle.fit.specs.Stands.{Stands}
-use Rattle.fit.specs.Tests.{judgeTests}
+use Rattle.fit_theory.specs.Stands.{Stands}
+use Rattle.fit_theory.specs.Tests.{judgeTests}
 
 pub record JudgeAnswer (rule : Rule) (N : ℕ) (ds ps : List ℕ) (D : ℕ) (ns : List ℤ) (r : Verdict) : Type 0 where
   pub answer : answerOf r ≡ judgeTests rule N ds ps D ns

@@ -7,8 +7,8 @@ ghost use mathlib.Core.Path.{_≡_};
 ghost use lib.ListN.{length};
 ghost use Rattle.verdict.specs.Answer.{answerOf};
 ghost use Rattle.lengths.specs.Proper.{Proper};
-ghost use Rattle.fit.specs.Stands.{Posted};
-ghost use Rattle.fit.specs.Tests.{sumsTests, proposalTests};
+ghost use Rattle.fit_theory.specs.Stands.{Posted};
+ghost use Rattle.fit_theory.specs.Tests.{sumsTests, proposalTests};
 ghost use Rattle.judging.specs.Answers.{JudgeAnswer};
 
 // 14, 23: for some edge the remainders over the pairs that it parts do not add to what the rule asks.

@@ -11,7 +11,7 @@ use Rattle.verdict.specs.declared.Place.the-variants.{Nowhere, Edge}
 use Rattle.verdict.specs.Table.{first}
 use Rattle.verdict.specs.declared.Rule.{Rule}
 use Rattle.verdict.specs.declared.Rule.the-variants.{Drawable}
-use Rattle.trees.specs.Limits.{maxEdges}
+use Rattle.tree_theory.specs.Limits.{maxEdges}
 use Rattle.lengths.specs.Limits.{maxDenominator}
 use Rattle.lengths.specs.Tests.{lengthsTests, numeratorOut, isNegative, signTests}
 

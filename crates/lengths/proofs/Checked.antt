@@ -12,7 +12,7 @@ use Rattle.verdict.specs.Answer.{pass, fault, test, atFirst, _orElse_}
 use Rattle.verdict.specs.declared.Place.the-variants.{Edge}
 use Rattle.verdict.proofs.Answers.{orElse-pass, test-pass, first-pass, refuses, or-none}
 use Rattle.verdict.proofs.Table.{some-none, past-first}
-use Rattle.trees.specs.Limits.{maxEdges}
+use Rattle.tree_theory.specs.Limits.{maxEdges}
 use Rattle.lengths.specs.Limits.{maxDenominator, maxNumerator}
 use Rattle.lengths.specs.Tests.{lengthsTests, edgesOut, denominatorOut, numeratorOut}
 use Rattle.lengths.specs.Proper.{Proper}

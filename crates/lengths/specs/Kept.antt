@@ -8,7 +8,7 @@ use Rattle.exact.specs.Table.{table}
 use Rattle.verdict.specs.Answer.{pass, answerOf}
 use Rattle.lengths.specs.declared.Lengths.{Lengths}
 use Rattle.lengths.specs.declared.Proposed.{Proposed}
-use Rattle.trees.specs.Limits.{maxEdges}
+use Rattle.tree_theory.specs.Limits.{maxEdges}
 use Rattle.lengths.specs.Tests.{lengthsTests}
 
 -- lengths that passed: the numerators, followed by zeros

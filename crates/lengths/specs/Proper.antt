@@ -4,7 +4,7 @@ use mathlib.Core.List.{List}
 use Prim.Native.Nat.{ℕ, _≤_, _<_}
 use lib.IntN.{ℤ, pos, natAbs}
 use lib.ListN.{length, getD}
-use Rattle.trees.specs.Limits.{maxEdges}
+use Rattle.tree_theory.specs.Limits.{maxEdges}
 use Rattle.lengths.specs.Limits.{maxDenominator, maxNumerator}
 
 pub record Proper (edges D : ℕ) (ns : List ℤ) : Type 0 where

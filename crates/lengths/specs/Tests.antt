@@ -11,7 +11,7 @@ use Rattle.verdict.specs.Answer.{Answer, pass, fault, test, atFirst, _orElse_}
 use Rattle.verdict.specs.declared.Place.the-variants.{Edge}
 use Rattle.verdict.specs.declared.Rule.{Rule}
 use Rattle.verdict.specs.declared.Rule.the-variants.{Plain, Drawable}
-use Rattle.trees.specs.Limits.{maxEdges}
+use Rattle.tree_theory.specs.Limits.{maxEdges}
 use Rattle.lengths.specs.Limits.{maxDenominator, maxNumerator}
 
 -- 11: K, the count of numerators, not V - 1. No allowed tree has more than 125 edges, so more are refused here too.

@@ -12,7 +12,7 @@ ghost use lib.ListN.{length, getD};
 ghost use Rattle.exact.specs.Table.{table};
 ghost use Rattle.verdict.specs.Answer.{answerOf};
 ghost use Rattle.verdict.specs.Table.{first};
-ghost use Rattle.trees.specs.Limits.{maxEdges};
+ghost use Rattle.tree_theory.specs.Limits.{maxEdges};
 ghost use Rattle.lengths.specs.Limits.{maxDenominator, maxNumerator};
 ghost use Rattle.lengths.specs.Tests.{numeratorOut, isNegative, lengthsTests, signTests};
 ghost use Rattle.lengths.specs.Kept.{LengthsAnswer};

@@ -11,9 +11,9 @@ use Rattle.exact.specs.Table.{entryOf}
 use Rattle.verdict.specs.declared.Place.{Place}
 use Rattle.verdict.specs.declared.Place.the-variants.{EdgeSum}
 use Rattle.mean.specs.declared.Mean.{Mean}
-use Rattle.text.specs.Text.{decimal, signed, Wrote}
-use Rattle.text.proofs.Decimals.{decimal-length, signed-length}
-use Rattle.text.proofs.Writing.{wrote-none, wrote-then, wrote-length}
+use Rattle.writing.specs.Text.{decimal, signed, Wrote}
+use Rattle.writing.proofs.Decimals.{decimal-length, signed-length}
+use Rattle.writing.proofs.Writing.{wrote-none, wrote-then, wrote-length}
 use Rattle.lines.specs.Lines.{fields, meanLine, placeFields, edgeWord, edgeLines}
 use Rattle.lines.proofs.Sizes.{fields-length}
 

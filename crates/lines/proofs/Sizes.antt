@@ -11,10 +11,10 @@ use Rattle.verdict.specs.declared.Rule.{Rule}
 use Rattle.verdict.specs.declared.Rule.the-variants.{Plain, Drawable}
 use Rattle.mean.specs.declared.Mean.{Mean}
 use Rattle.mean.specs.declared.Mean.the-variants.{None, Over}
-use Rattle.trees.specs.Limits.{maxEdges}
-use Rattle.text.specs.Text.{signed, Wrote}
-use Rattle.text.proofs.Writing.{wrote-then}
-use Rattle.text.proofs.Decimals.{signed-length}
+use Rattle.tree_theory.specs.Limits.{maxEdges}
+use Rattle.writing.specs.Text.{signed, Wrote}
+use Rattle.writing.proofs.Writing.{wrote-then}
+use Rattle.writing.proofs.Decimals.{signed-length}
 use Rattle.lines.specs.Lines.{end, fields, line, edgeWord, edgeLines, placeFields, refusedLine, fitWord, lengthWord, squareWord, meanLine, resolvedWord, fitText, resolvedText}
 use Rattle.lines.specs.Page.{pageSize, widest}
 

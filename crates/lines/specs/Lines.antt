@@ -9,7 +9,7 @@ use Rattle.verdict.specs.declared.Rule.{Rule}
 use Rattle.verdict.specs.declared.Rule.the-variants.{Plain, Drawable}
 use Rattle.mean.specs.declared.Mean.{Mean}
 use Rattle.mean.specs.declared.Mean.the-variants.{None, Over}
-use Rattle.text.specs.Text.{signed}
+use Rattle.writing.specs.Text.{signed}
 
 -- the end of a line
 abbrev pub end : List ℕ

@@ -5,7 +5,7 @@ ghost use mathlib.Core.List.{[], _∷_, _++_};
 ghost use Prim.Native.Nat.{_+_, _*_, _≤_};
 ghost use lib.IntN.{pos};
 ghost use lib.ListN.{length};
-ghost use Rattle.text.specs.Text.{Wrote};
+ghost use Rattle.writing.specs.Text.{Wrote};
 ghost use Rattle.lines.specs.Lines.{fields, line, meanLine, placeFields, refusedLine};
 ghost use Rattle.lines.specs.Page.{widest};
 
@@ -17,8 +17,8 @@ fn fields(text: &mut [u8], at: usize, values: &[i64]) -> usize
     let mut next = at;
     let mut k = 0;
     while k < values.len() {
-        let number = text::put(text, next, b' ');
-        next = text::put_signed(text, number, values[k]);
+        let number = writing::put(text, next, b' ');
+        next = writing::put_signed(text, number, values[k]);
         k += 1;
     }
     next
@@ -29,9 +29,9 @@ pub fn line(text: &mut [u8], at: usize, word: &[u8], values: &[i64]) -> usize
     requires room { ⌜ at + length (now word) + 22 * length (now values) + 1 ≤ length (now text) ⌝ }
     ensures { λ r. ⌜ Wrote (now (text .entry)) (now (text .exit)) at (line (now (word .entry)) (now (values .entry))) r ⌝ }
 {
-    let numbers = text::put_word(text, at, word);
+    let numbers = writing::put_word(text, at, word);
     let end = fields(text, numbers, values);
-    text::put(text, end, b'\n')
+    writing::put(text, end, b'\n')
 }
 
 // The line of the mean square: F and what it is over, or none.
@@ -53,9 +53,9 @@ fn named(text: &mut [u8], at: usize, word: &[u8], n: u64) -> usize
     requires room { ⌜ at + length (now word) + 22 ≤ length (now text) ⌝ }
     ensures { λ r. ⌜ Wrote (now (text .entry)) (now (text .exit)) at (now (word .entry) ++ fields (pos n ∷ [])) r ⌝ }
 {
-    let space = text::put_word(text, at, word);
-    let number = text::put(text, space, b' ');
-    text::put_number(text, number, n)
+    let space = writing::put_word(text, at, word);
+    let number = writing::put(text, space, b' ');
+    writing::put_number(text, number, n)
 }
 
 // The place of a refusal: a space and byte, vertex or edge, its number, and the sum where the edge has one; nothing
@@ -71,8 +71,8 @@ fn place_fields(text: &mut [u8], at: usize, place: Place) -> usize
         Place::Edge(e) => named(text, at, b" edge", e as u64),
         Place::EdgeSum(e, z) => {
             let edge = named(text, at, b" edge", e as u64);
-            let sum = text::put(text, edge, b' ');
-            text::put_signed(text, sum, z)
+            let sum = writing::put(text, edge, b' ');
+            writing::put_signed(text, sum, z)
         }
     }
 }
@@ -84,5 +84,5 @@ pub fn refused_line(text: &mut [u8], at: usize, number: u32, place: Place) -> us
 {
     let behind = named(text, at, b"refused", number as u64);
     let last = place_fields(text, behind, place);
-    text::put(text, last, b'\n')
+    writing::put(text, last, b'\n')
 }

@@ -10,7 +10,7 @@ use native.Mathlib.Omega.{arith}
 use lib.IntN.{ℤ, pos}
 use Rattle.exact.proofs.Decide.{by-cases}
 use Rattle.matrix.specs.Place.{pairCount, someMissing, Complete}
-use Rattle.trees.specs.Allowed.{Allowed}
+use Rattle.tree_theory.specs.Allowed.{Allowed}
 use Rattle.mean.specs.declared.Mean.{Mean}
 use Rattle.mean.specs.declared.Mean.the-variants.{None, Over}
 use Rattle.mean.specs.Mean.{times, meanOf}

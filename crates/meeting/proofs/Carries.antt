@@ -15,7 +15,7 @@ use Rattle.exact.proofs.Sign.{natAbs-add, natAbs-sub, fits-abs, back}
 use Rattle.exact.proofs.Sweep.{ind-abs}
 use Rattle.exact.proofs.Sum.{ind-yes, ind-no}
 use Rattle.matrix.specs.Limits.{maxStrains}
-use Rattle.trees.specs.Cluster.{bitAt}
+use Rattle.tree_theory.specs.Cluster.{bitAt}
 use Rattle.lengths.specs.Limits.{maxNumerator}
 use Rattle.exact.specs.Table.{entryOf}
 use Rattle.meeting.specs.declared.Low.{Low}

@@ -15,7 +15,7 @@ use lib.Pow.{pow-pos}
 use Rattle.exact.specs.Sum.{ind}
 use Rattle.exact.proofs.Decide.{by-cases, eq-yes, eq-no}
 use Rattle.exact.proofs.Sum.{ind-no}
-use Rattle.trees.specs.Cluster.{bitAt}
+use Rattle.tree_theory.specs.Cluster.{bitAt}
 
 -- digit i of m is its lowest that is set
 pub record Lows (k m i : ℕ) : Type 0 where

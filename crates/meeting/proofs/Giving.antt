@@ -9,8 +9,8 @@ use mir.Val.{SFits, toZ, ofZ}
 use mir.Facts.{toZ-ofZ}
 use Rattle.exact.proofs.Quote.{by-ring, quote}
 use Rattle.exact.proofs.Sign.{natAbs-sub, fits-abs, back}
-use Rattle.trees.specs.Limits.{maxVertices}
-use Rattle.trees.proofs.Chains.{bit}
+use Rattle.tree_theory.specs.Limits.{maxVertices}
+use Rattle.tree_theory.proofs.Chains.{bit}
 use Rattle.exact.specs.Table.{entryOf}
 use Rattle.meeting.specs.Shares.{Put, Given, under, mass}
 use Rattle.meeting.proofs.Putting.{put-under, mass-put, put-room}

@@ -11,8 +11,8 @@ use Rattle.exact.proofs.Decide.{eq-yes}
 use Rattle.exact.proofs.Quote.{by-ring, quote}
 use Rattle.exact.proofs.Sum.{sum-cong, sum-cut, sum-+, sum-*, sum-at, sum-zero, ind-no}
 use Rattle.matrix.specs.Limits.{maxStrains}
-use Rattle.trees.specs.Cluster.{bitAt, mask}
-use Rattle.trees.proofs.Masks.{mask-bit, mask-lt, bit-past}
+use Rattle.tree_theory.specs.Cluster.{bitAt, mask}
+use Rattle.tree_theory.proofs.Masks.{mask-bit, mask-lt, bit-past}
 use Rattle.meeting.specs.declared.Low.{Low}
 use Rattle.meeting.specs.Meeting.{over, LowestStrain}
 

@@ -12,9 +12,9 @@ use mir.Syntax.{w64}
 use mir.Val.{toZ, ofZ}
 use Rattle.exact.proofs.Quote.{by-ring, quote}
 use Rattle.exact.proofs.Sign.{back}
-use Rattle.trees.specs.Limits.{maxVertices}
-use Rattle.trees.specs.Cluster.{bitAt}
-use Rattle.trees.proofs.Chains.{bit}
+use Rattle.tree_theory.specs.Limits.{maxVertices}
+use Rattle.tree_theory.specs.Cluster.{bitAt}
+use Rattle.tree_theory.proofs.Chains.{bit}
 use Rattle.meeting.specs.declared.Low.{Low}
 use Rattle.meeting.specs.Shares.{Given, under, mass}
 use Rattle.meeting.specs.Meeting.{pairMass, LowestStrain, Apart, Rowed, Met, over, remainderByWays}

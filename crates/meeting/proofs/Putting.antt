@@ -18,8 +18,8 @@ use Rattle.exact.proofs.Ring.{*ℤ-oneˡ}
 use Rattle.exact.proofs.Sign.{natAbs-add}
 use Rattle.exact.proofs.Sweep.{ind-abs}
 use Rattle.exact.proofs.Sum.{sum-cong, sum-+, sum-at, sum-zero, ind-yes, ind-no}
-use Rattle.trees.specs.Limits.{maxVertices}
-use Rattle.trees.specs.Chain.{below}
+use Rattle.tree_theory.specs.Limits.{maxVertices}
+use Rattle.tree_theory.specs.Chain.{below}
 use Rattle.meeting.specs.Shares.{Put, under, mass}
 
 -- x added to one entry

@@ -11,9 +11,9 @@ use mir.Syntax.{w64}
 use mir.Val.{SFits, toZ, ofZ}
 use Rattle.exact.proofs.Quote.{by-ring, quote}
 use Rattle.exact.proofs.Sign.{natAbs-add, fits-abs, back}
-use Rattle.trees.specs.Limits.{maxVertices}
-use Rattle.trees.specs.Cluster.{bitAt}
-use Rattle.trees.proofs.Chains.{bit}
+use Rattle.tree_theory.specs.Limits.{maxVertices}
+use Rattle.tree_theory.specs.Cluster.{bitAt}
+use Rattle.tree_theory.proofs.Chains.{bit}
 use Rattle.exact.specs.Table.{entryOf}
 use Rattle.meeting.specs.declared.Low.{Low}
 use Rattle.meeting.specs.Shares.{Put, under, mass}

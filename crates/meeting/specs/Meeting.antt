@@ -13,9 +13,9 @@ use Rattle.exact.specs.Sum.{sum, ind}
 use Rattle.matrix.specs.Limits.{maxStrains, maxDistance}
 use Rattle.matrix.specs.Place.{pairCount, known, measuredOf, distanceOf}
 use Rattle.lengths.specs.Limits.{maxDenominator, maxNumerator}
-use Rattle.trees.specs.Limits.{maxEdges, maxVertices}
-use Rattle.trees.specs.Chain.{below}
-use Rattle.trees.specs.Cluster.{bitAt}
+use Rattle.tree_theory.specs.Limits.{maxEdges, maxVertices}
+use Rattle.tree_theory.specs.Chain.{below}
+use Rattle.tree_theory.specs.Cluster.{bitAt}
 use Rattle.exact.specs.Table.{entryOf}
 use Rattle.meeting.specs.declared.Low.{Low}
 use Rattle.meeting.specs.Shares.{under, mass}

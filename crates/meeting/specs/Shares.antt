@@ -6,8 +6,8 @@ use lib.Dec.{eqb}
 use lib.IntN.{ℤ, pos, natAbs, _+ℤ_, _-ℤ_, _*ℤ_}
 use lib.ListN.{length}
 use Rattle.exact.specs.Sum.{sum, ind}
-use Rattle.trees.specs.Limits.{maxVertices}
-use Rattle.trees.specs.Chain.{below}
+use Rattle.tree_theory.specs.Limits.{maxVertices}
+use Rattle.tree_theory.specs.Chain.{below}
 use Rattle.exact.specs.Table.{entryOf}
 
 -- x is added to the entry of vertex k, and every other entry stays

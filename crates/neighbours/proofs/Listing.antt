@@ -12,12 +12,12 @@ use lib.ListN.{length, getD, set}
 use lib.Seq.{getD-set-same, getD-set-other}
 use Rattle.exact.proofs.Decide.{by-cases, eq-yes, eq-no}
 use Rattle.verdict.specs.Table.{count}
-use Rattle.trees.specs.Limits.{maxEdges}
-use Rattle.trees.specs.Chain.{kid}
-use Rattle.trees.specs.Allowed.{Allowed, children}
+use Rattle.tree_theory.specs.Limits.{maxEdges}
+use Rattle.tree_theory.specs.Chain.{kid}
+use Rattle.tree_theory.specs.Allowed.{Allowed, children}
 use Rattle.neighbours.specs.Listed.{childRoom}
-use Rattle.resolution.specs.Children.{childTo, childOf, sibling, thirdAt, farther, Resolved}
-use Rattle.resolution.proofs.Children.{place-less, two-children, three-children}
+use Rattle.direct_theory.specs.Children.{childTo, childOf, sibling, thirdAt, farther, Resolved}
+use Rattle.direct_theory.proofs.Children.{place-less, two-children, three-children}
 
 -- ---- neighbours by cases
 module _ (K : ℕ) (par : ℕ → ℕ) (c : ℕ) where

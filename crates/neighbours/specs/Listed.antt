@@ -3,7 +3,7 @@ use mathlib.Core.Path.{_≡_}
 use mathlib.Core.List.{List}
 use Prim.Native.Nat.{ℕ, _+_, _*_, _≤_, _<_}
 use lib.ListN.{getD}
-use Rattle.resolution.specs.Children.{childOf}
+use Rattle.direct_theory.specs.Children.{childOf}
 
 -- three for each of the 126 vertices
 abbrev pub childRoom : ℕ

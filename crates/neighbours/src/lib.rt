@@ -5,12 +5,12 @@ ghost use mathlib.Core.Path.{_≡_};
 ghost use Prim.Native.Nat.{_≤_, _<_};
 ghost use lib.ListN.{length};
 ghost use Rattle.exact.specs.Table.{table};
-ghost use Rattle.trees.specs.Limits.{maxEdges, maxVertices};
-ghost use Rattle.trees.specs.Chain.{parentOf};
-ghost use Rattle.trees.specs.Allowed.{Allowed};
+ghost use Rattle.tree_theory.specs.Limits.{maxEdges, maxVertices};
+ghost use Rattle.tree_theory.specs.Chain.{parentOf};
+ghost use Rattle.tree_theory.specs.Allowed.{Allowed};
 ghost use Rattle.paths.specs.Standing.{Standing};
-ghost use Rattle.resolution.specs.Children.{Resolved, childOf, sibling, farther};
-ghost use Rattle.resolution.specs.Averages.{strainsBelow, neither, size};
+ghost use Rattle.direct_theory.specs.Children.{Resolved, childOf, sibling, farther};
+ghost use Rattle.direct_theory.specs.Averages.{strainsBelow, neither, size};
 ghost use Rattle.neighbours.specs.Listed.{childRoom, Listed};
 
 // Room for three children of each vertex.

@@ -4,7 +4,7 @@ use Prim.Native.Nat.{ℕ}
 use lib.IntN.{ℤ}
 use Rattle.exact.specs.Table.{entryOf}
 use Rattle.matrix.specs.Place.{distance, place}
-use Rattle.fit.proofs.Ranges.{Bounds}
+use Rattle.fit_theory.proofs.Ranges.{Bounds}
 use Rattle.paths.proofs.Climb.{few-edges}
 use Rattle.pairs.specs.Ready.{Ready, InRange}
 

@@ -11,12 +11,12 @@ use lib.ListN.{length, getD}
 use Rattle.exact.specs.Table.{table}
 use Rattle.exact.proofs.Fill.{getD-table}
 use Rattle.matrix.proofs.Completes.{known-near}
-use Rattle.trees.specs.Limits.{maxEdges, maxVertices}
-use Rattle.trees.specs.Chain.{parentOf}
-use Rattle.trees.specs.Allowed.{Allowed}
-use Rattle.trees.specs.Cluster.{cluster}
+use Rattle.tree_theory.specs.Limits.{maxEdges, maxVertices}
+use Rattle.tree_theory.specs.Chain.{parentOf}
+use Rattle.tree_theory.specs.Allowed.{Allowed}
+use Rattle.tree_theory.specs.Cluster.{cluster}
 use Rattle.lengths.specs.Proper as lengths
-use Rattle.fit.specs.Stands.{Posted}
+use Rattle.fit_theory.specs.Stands.{Posted}
 use Rattle.paths.specs.Standing.{Standing, Small}
 use Rattle.pairs.specs.Ready.{Ready, InRange}
 

@@ -17,8 +17,8 @@ use Rattle.matrix.specs.Limits.{maxDistance, missing}
 use Rattle.matrix.specs.Place.{place, measured}
 use Rattle.matrix.proofs.Looking.{known-of, read-measured, read-missing}
 use Rattle.matrix.proofs.Places.{place-bound}
-use Rattle.fit.proofs.Measured.{measured-remainder, missing-remainder}
-use Rattle.trees.specs.Chain.{parentOf, partsPair}
+use Rattle.fit_theory.proofs.Measured.{measured-remainder, missing-remainder}
+use Rattle.tree_theory.specs.Chain.{parentOf, partsPair}
 use Rattle.exact.specs.Table.{entryOf}
 use Rattle.lengths.specs.Limits.{maxDenominator}
 use Rattle.paths.proofs.Bounds.{farthestPath, path-near}

@@ -9,7 +9,7 @@ use Rattle.exact.specs.Table.{entryOf}
 use Rattle.matrix.specs.Limits.{maxDistance}
 use Rattle.matrix.specs.Place.{pairCount, known, distance}
 use Rattle.lengths.specs.Limits.{maxDenominator, maxNumerator}
-use Rattle.fit.specs.Quantities.{partsIn}
+use Rattle.fit_theory.specs.Quantities.{partsIn}
 use Rattle.paths.specs.Standing.{Standing, Small}
 
 pub record Ready (N K D : ℕ) (ds ps cs : List ℕ) (ns : List ℤ) : Type 0 where

@@ -9,10 +9,10 @@ use mir.Syntax.{w64}
 use mir.Val.{toZ, ofZ, SFits}
 use Rattle.exact.proofs.Sign.{fits-abs, back}
 use Rattle.exact.proofs.Quote.{by-ring, quote}
-use Rattle.trees.specs.Limits.{maxEdges}
-use Rattle.trees.specs.Way.{way}
-use Rattle.trees.proofs.Chains.{Below, Up, along}
-use Rattle.trees.proofs.Ways.{way-step, way-stop, way-split}
+use Rattle.tree_theory.specs.Limits.{maxEdges}
+use Rattle.tree_theory.specs.Way.{way}
+use Rattle.tree_theory.proofs.Chains.{Below, Up, along}
+use Rattle.tree_theory.proofs.Ways.{way-step, way-stop, way-split}
 use Rattle.exact.specs.Table.{entryOf}
 use Rattle.paths.specs.Standing.{Small}
 use Rattle.paths.proofs.Climb.{Off}

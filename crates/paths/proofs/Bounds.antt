@@ -9,9 +9,9 @@ use Rattle.exact.specs.Sum.{ind}
 use Rattle.exact.specs.LeastSquares.{path, hops}
 use Rattle.exact.proofs.Sweep.{sum-abs, ind-one, chosen-sum-abs}
 use Rattle.exact.proofs.Sign.{natAbs-sub}
-use Rattle.trees.specs.Limits.{maxEdges}
-use Rattle.trees.specs.Chain.{parts, partsPair}
-use Rattle.trees.specs.Way.{way, only}
+use Rattle.tree_theory.specs.Limits.{maxEdges}
+use Rattle.tree_theory.specs.Chain.{parts, partsPair}
+use Rattle.tree_theory.specs.Way.{way, only}
 use Rattle.exact.specs.Table.{entryOf}
 use Rattle.paths.specs.Standing.{maxThousandths, Small}
 

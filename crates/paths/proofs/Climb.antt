@@ -10,11 +10,11 @@ use native.Mathlib.Omega.{arith}
 use borrow.Author.Tests.{not-true, not-false}
 use lib.ListN.{getD}
 use Rattle.exact.proofs.Decide.{by-cases}
-use Rattle.trees.specs.Limits.{maxEdges}
-use Rattle.trees.specs.Chain.{parentOf, below}
-use Rattle.trees.specs.Cluster.{bitAt}
-use Rattle.trees.proofs.Chains.{Below, below-true, below-yes, below-self, below-trans, below-par, below-root}
-use Rattle.trees.proofs.Masks.{cluster-has}
+use Rattle.tree_theory.specs.Limits.{maxEdges}
+use Rattle.tree_theory.specs.Chain.{parentOf, below}
+use Rattle.tree_theory.specs.Cluster.{bitAt}
+use Rattle.tree_theory.proofs.Chains.{Below, below-true, below-yes, below-self, below-trans, below-par, below-root}
+use Rattle.tree_theory.proofs.Masks.{cluster-has}
 use Rattle.paths.specs.Standing.{Standing}
 
 -- a climb from i stands at a

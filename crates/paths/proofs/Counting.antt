@@ -7,11 +7,11 @@ use Rattle.exact.specs.Sum.{ind}
 use Rattle.exact.specs.LeastSquares.{path, hops}
 use Rattle.exact.proofs.Ring.{*ℤ-oneʳ}
 use Rattle.exact.proofs.Sum.{sum-cong}
-use Rattle.trees.specs.Limits.{maxEdges}
-use Rattle.trees.specs.Chain.{parts, partsPair}
-use Rattle.trees.specs.Way.{way}
-use Rattle.trees.proofs.Chains.{Up, along}
-use Rattle.trees.proofs.Ways.{way-split}
+use Rattle.tree_theory.specs.Limits.{maxEdges}
+use Rattle.tree_theory.specs.Chain.{parts, partsPair}
+use Rattle.tree_theory.specs.Way.{way}
+use Rattle.tree_theory.proofs.Chains.{Up, along}
+use Rattle.tree_theory.proofs.Ways.{way-split}
 use Rattle.paths.proofs.Climb.{Off}
 use Rattle.paths.proofs.Adding.{added, added-more}
 use Rattle.paths.proofs.Bounds.{hops-few}

@@ -6,9 +6,9 @@ use lib.IntN.{ℤ, natAbs}
 use lib.ListN.{length, getD}
 use Rattle.exact.specs.Table.{entryOf}
 use Rattle.lengths.specs.Limits.{maxNumerator}
-use Rattle.trees.specs.Chain.{parentOf}
-use Rattle.trees.specs.Allowed.{Allowed}
-use Rattle.trees.specs.Cluster.{cluster}
+use Rattle.tree_theory.specs.Chain.{parentOf}
+use Rattle.tree_theory.specs.Allowed.{Allowed}
+use Rattle.tree_theory.specs.Cluster.{cluster}
 
 -- the most thousandths that a length has: a thousand times the largest numerator
 abbrev pub maxThousandths : ℕ

@@ -7,9 +7,9 @@ ghost use Prim.Native.Nat.{_<_, _≤_};
 ghost use lib.IntN.{pos};
 ghost use Rattle.exact.specs.LeastSquares.{path, hops};
 ghost use Rattle.exact.specs.Table.{entryOf};
-ghost use Rattle.trees.specs.Limits.{maxEdges};
-ghost use Rattle.trees.specs.Chain.{parentOf, partsPair};
-ghost use Rattle.trees.specs.Way.{way};
+ghost use Rattle.tree_theory.specs.Limits.{maxEdges};
+ghost use Rattle.tree_theory.specs.Chain.{parentOf, partsPair};
+ghost use Rattle.tree_theory.specs.Way.{way};
 ghost use Rattle.paths.specs.Standing.{Standing, Small};
 
 // A table's sum over some edges, and how many edges they are.

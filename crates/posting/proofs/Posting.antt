@@ -16,10 +16,10 @@ use Rattle.matrix.specs.Place.{someMissing}
 use Rattle.matrix.specs.declared.Survey.{Survey}
 use Rattle.matrix.specs.Surveys.{Surveyed}
 use Rattle.matrix.proofs.Checked.{proper→}
-use Rattle.fit.specs.Stands.{Shaped}
-use Rattle.fit.specs.Tests.{shapeTests, unseen, seenTests, postedTests}
-use Rattle.fit.proofs.Exactly.{→shaped, posted→}
-use Rattle.fit.proofs.Complete.{complete-posted}
+use Rattle.fit_theory.specs.Stands.{Shaped}
+use Rattle.fit_theory.specs.Tests.{shapeTests, unseen, seenTests, postedTests}
+use Rattle.fit_theory.proofs.Exactly.{→shaped, posted→}
+use Rattle.fit_theory.proofs.Complete.{complete-posted}
 
 -- the answer at the edge that the code found to be the first
 module _ (N : ℕ) (ds ps : List ℕ) (v : ℕ) (e : v ≡ first (length ps) (unseen N ds ps)) where

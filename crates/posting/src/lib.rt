@@ -5,8 +5,8 @@ use verdict::Refusal;
 use verdict::Verdict;
 ghost use mathlib.Core.Path.{_≡_};
 ghost use Rattle.verdict.specs.Answer.{answerOf};
-ghost use Rattle.fit.specs.Stands.{Shaped};
-ghost use Rattle.fit.specs.Tests.{shapeTests, seenTests, postedTests};
+ghost use Rattle.fit_theory.specs.Stands.{Shaped};
+ghost use Rattle.fit_theory.specs.Tests.{shapeTests, seenTests, postedTests};
 
 // Each by itself: 4, 6 to 10, 16, the first that applies.
 pub fn check_shapes(n: u32, distances: &[u16], parents: &[u8]) -> Verdict

@@ -18,10 +18,10 @@ use Rattle.verdict.proofs.Answers.{orElse-pass, not-pass, refused-row}
 use Rattle.matrix.specs.Limits.{minStrains, maxStrains}
 use Rattle.matrix.specs.Place.{pairCount}
 use Rattle.matrix.specs.Tests.{matrixTests}
-use Rattle.trees.specs.Limits.{maxEdges}
-use Rattle.fit.specs.Tests.{shapeTests, seenTests, postedTests}
-use Rattle.fit.specs.Stands.{Shaped, Posted}
-use Rattle.fit.proofs.Exactly.{→shaped, →posted}
+use Rattle.tree_theory.specs.Limits.{maxEdges}
+use Rattle.fit_theory.specs.Tests.{shapeTests, seenTests, postedTests}
+use Rattle.fit_theory.specs.Stands.{Shaped, Posted}
+use Rattle.fit_theory.proofs.Exactly.{→shaped, →posted}
 use Rattle.records.specs.Form.{formTests}
 use Rattle.reading.specs.declared.Sheet.{Sheet}
 use Rattle.reading.specs.Holds.{strainsOf, distancesOf, verticesOf, parentsOf}

@@ -15,8 +15,8 @@ use Rattle.matrix.specs.Limits.{maxStrains, maxPairs}
 use Rattle.matrix.specs.Place.{pairCount, fromRows}
 use Rattle.matrix.specs.Tests.{matrixTests}
 use Rattle.matrix.proofs.Places.{pairs-few}
-use Rattle.trees.specs.Tests.{treeTests}
-use Rattle.fit.specs.Tests.{shapeTests, seenTests, postedTests}
+use Rattle.tree_theory.specs.Tests.{treeTests}
+use Rattle.fit_theory.specs.Tests.{shapeTests, seenTests, postedTests}
 use Rattle.endian.specs.Bytes.{number}
 use Rattle.records.specs.Form.{maxSheet, startOf, formTests}
 use Rattle.records.proofs.InTurn.{first-start}

@@ -11,7 +11,7 @@ use Rattle.verdict.specs.declared.Place.the-variants.{Nowhere}
 use Rattle.verdict.specs.declared.Verdict.the-variants.{Accepted, Refused}
 use Rattle.verdict.specs.Answer.{pass, answerOf, test}
 use Rattle.verdict.proofs.Answers.{refuses}
-use Rattle.trees.specs.Limits.{maxEdges}
+use Rattle.tree_theory.specs.Limits.{maxEdges}
 use Rattle.endian.specs.Bytes.{number, twos}
 use Rattle.records.specs.Form.{startOf}
 use Rattle.reading.specs.declared.Proposal.{Proposal}

@@ -9,7 +9,7 @@ use Rattle.verdict.specs.Answer.{pass}
 use Rattle.verdict.specs.declared.Rule.{Rule}
 use Rattle.verdict.proofs.Answers.{orElse-pass}
 use Rattle.matrix.specs.Limits.{maxStrains}
-use Rattle.trees.specs.Limits.{maxVertices, maxEdges}
+use Rattle.tree_theory.specs.Limits.{maxVertices, maxEdges}
 use Rattle.records.specs.Form.{maxSheet, startOf, formTests}
 use Rattle.records.proofs.Formed.{form-short, form-whole, record-ends, record-long}
 use Rattle.reading.specs.Holds.{strainsOf, verticesOf, edgesOf}

@@ -17,8 +17,8 @@ use Rattle.verdict.proofs.Answers.{orElse-pass, test-pass}
 use Rattle.matrix.specs.Limits.{maxPairs}
 use Rattle.matrix.specs.Place.{pairCount}
 use Rattle.matrix.proofs.Places.{pairs-few}
-use Rattle.trees.specs.Limits.{maxEdges}
-use Rattle.fit.specs.Stands.{Shaped, Posted}
+use Rattle.tree_theory.specs.Limits.{maxEdges}
+use Rattle.fit_theory.specs.Stands.{Shaped, Posted}
 use Rattle.records.specs.Form.{formTests, startOf}
 use Rattle.records.proofs.Decoding.{front-is, front-length, front-there}
 use Rattle.reading.specs.declared.Sheet.{Sheet}

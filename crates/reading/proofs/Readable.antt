@@ -8,8 +8,8 @@ use Rattle.verdict.specs.Answer.{Answer, pass, test, _orElse_}
 use Rattle.verdict.specs.declared.Rule.{Rule}
 use Rattle.verdict.proofs.Answers.{orElse-assoc, orElse-again}
 use Rattle.matrix.specs.Tests.{matrixTests}
-use Rattle.trees.specs.Tests.{treeTests}
-use Rattle.fit.specs.Tests.{seenTests, proposalTests, judgeTests}
+use Rattle.tree_theory.specs.Tests.{treeTests}
+use Rattle.fit_theory.specs.Tests.{seenTests, proposalTests, judgeTests}
 use Rattle.records.specs.Form.{formTests}
 use Rattle.reading.specs.Holds.{strainsOf, distancesOf, treeStrainsOf, parentsOf, denominatorOf, numeratorsOf}
 use Rattle.reading.specs.Tests.{heldTests, sheetTests}

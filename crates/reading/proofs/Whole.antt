@@ -15,9 +15,9 @@ use Rattle.verdict.specs.Answer.{Answer, pass, fault, answerOf, refusalOf, test
 use Rattle.verdict.specs.declared.Rule.{Rule}
 use Rattle.verdict.proofs.Answers.{passes, orElse-pass, orElse-assoc, not-pass}
 use Rattle.matrix.specs.Tests.{matrixTests}
-use Rattle.trees.specs.Limits.{maxEdges}
+use Rattle.tree_theory.specs.Limits.{maxEdges}
 use Rattle.lengths.specs.Tests.{denominatorOut, numeratorOut, signTests}
-use Rattle.fit.specs.Tests.{proposalTests, sumsTests}
+use Rattle.fit_theory.specs.Tests.{proposalTests, sumsTests}
 use Rattle.records.specs.Form.{formTests}
 use Rattle.records.proofs.InTurn.{stays}
 use Rattle.reading.specs.declared.Sheet.{Sheet}

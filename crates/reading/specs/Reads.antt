@@ -7,7 +7,7 @@ use Rattle.exact.specs.Table.{table, padded}
 use Rattle.verdict.specs.Answer.{pass, answerOf, test}
 use Rattle.matrix.specs.Limits.{maxPairs}
 use Rattle.matrix.specs.Place.{pairCount}
-use Rattle.trees.specs.Limits.{maxEdges}
+use Rattle.tree_theory.specs.Limits.{maxEdges}
 use Rattle.records.specs.Form.{startOf}
 use Rattle.reading.specs.declared.Sheet.{Sheet}
 use Rattle.reading.specs.declared.Proposal.{Proposal}

@@ -6,7 +6,7 @@ use lib.Dec.{eqb, ltb}
 use Rattle.verdict.specs.Answer.{Answer, test, _orElse_}
 use Rattle.verdict.specs.declared.Rule.{Rule}
 use Rattle.matrix.specs.Tests.{matrixTests}
-use Rattle.fit.specs.Tests.{shapeTests, postedTests, judgeTests}
+use Rattle.fit_theory.specs.Tests.{shapeTests, postedTests, judgeTests}
 use Rattle.records.specs.Form.{formTests}
 use Rattle.reading.specs.Holds.{strainsOf, distancesOf, treeStrainsOf, verticesOf, parentsOf, denominatorOf, edgesOf, numeratorsOf}
 

@@ -13,7 +13,7 @@ ghost use Prim.Native.Nat.{_-_, _≤_};
 ghost use lib.Dec.{eqb};
 ghost use Rattle.verdict.specs.Answer.{pass, answerOf, test, _orElse_};
 ghost use Rattle.matrix.specs.Tests.{matrixTests};
-ghost use Rattle.trees.specs.Limits.{maxEdges};
+ghost use Rattle.tree_theory.specs.Limits.{maxEdges};
 ghost use Rattle.records.specs.Form.{maxRecords, startOf, formTests};
 ghost use Rattle.reading.specs.Holds.{verticesOf};
 ghost use Rattle.reading.specs.Tests.{bothTests};

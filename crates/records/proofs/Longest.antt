@@ -3,7 +3,7 @@
 use mathlib.Core.Path.{_≡_, refl}
 use Prim.Native.Nat.{_+_, _*_}
 use Rattle.matrix.specs.Limits.{maxStrains}
-use Rattle.trees.specs.Limits.{maxVertices, maxEdges}
+use Rattle.tree_theory.specs.Limits.{maxVertices, maxEdges}
 use Rattle.records.specs.Form.{maxRecords, headSize, maxSheet, bodyLength}
 
 -- three heads, and the bodies that 64 strains, 126 vertices and 125 edges have

@@ -9,7 +9,7 @@ use lib.ListN.{length}
 use Rattle.verdict.specs.declared.Place.the-variants.{Byte}
 use Rattle.verdict.specs.Answer.{Answer, pass, test, testAt, _orElse_}
 use Rattle.matrix.specs.Limits.{maxPairs}
-use Rattle.trees.specs.Limits.{maxEdges}
+use Rattle.tree_theory.specs.Limits.{maxEdges}
 use Rattle.endian.specs.Bytes.{number}
 
 -- the most records of a sheet

@@ -1,11 +1,11 @@
 // Reads a sheet from standard input and prints its report, or `refused`, the number and the place. Where
 // reading fails it prints nothing.
 fn main() {
-    let mut space = desk::room();
-    let taken = desk::take_in(&mut space);
+    let mut space = streams::room();
+    let taken = streams::take_in(&mut space);
     if !taken.whole {
         return;
     }
-    let mut text = prints::page();
-    desk::put_out(prints::sheet_print(&space[..taken.count], &mut text), &text);
+    let mut text = pages::page();
+    streams::put_out(pages::sheet_print(&space[..taken.count], &mut text), &text);
 }

@@ -28,13 +28,13 @@ use Rattle.verdict.specs.declared.Rule.{Rule}
 use Rattle.matrix.specs.Limits.{maxPairs}
 use Rattle.matrix.specs.Place.{distance, pairCount}
 use Rattle.matrix.proofs.Completes.{known-near}
-use Rattle.trees.specs.Limits.{maxEdges}
+use Rattle.tree_theory.specs.Limits.{maxEdges}
 use Rattle.lengths.specs.Limits.{maxDenominator, maxNumerator}
-use Rattle.fit.specs.Quantities.{partsIn, roundedOf, treeLength, fOf, rOf, hOf}
-use Rattle.fit.specs.Stands.{Posted, Stands}
-use Rattle.fit.proofs.Demand3.{least, r-range, h-high}
+use Rattle.fit_theory.specs.Quantities.{partsIn, roundedOf, treeLength, fOf, rOf, hOf}
+use Rattle.fit_theory.specs.Stands.{Posted, Stands}
+use Rattle.fit_theory.proofs.Demand3.{least, r-range, h-high}
 use Rattle.fit_numbers.proofs.Back.{between}
-use Rattle.fit.proofs.Ranges.{bounds, rounded-range}
+use Rattle.fit_theory.proofs.Ranges.{bounds, rounded-range}
 use Rattle.paths.specs.Standing.{Standing}
 use Rattle.pairs.specs.Ready.{Ready}
 use Rattle.pairs.proofs.Lent as lent

@@ -12,9 +12,9 @@ use Rattle.verdict.specs.declared.Verdict.{Verdict}
 use Rattle.verdict.specs.declared.Verdict.the-variants.{Accepted, Refused}
 use Rattle.verdict.specs.declared.Rule.{Rule}
 use Rattle.verdict.proofs.Answers.{refused-row, accepted-row, orElse-assoc, not-pass}
-use Rattle.fit.specs.Stands.{Posted, Stands}
-use Rattle.fit.specs.Tests.{bufferOut, postedTests, proposalTests, reportTests}
-use Rattle.fit.proofs.Exactly.{→posted, proposal-stands}
+use Rattle.fit_theory.specs.Stands.{Posted, Stands}
+use Rattle.fit_theory.specs.Tests.{bufferOut, postedTests, proposalTests, reportTests}
+use Rattle.fit_theory.proofs.Exactly.{→posted, proposal-stands}
 use Rattle.tables.proofs.Lent.{no-room}
 use Rattle.reporting.specs.declared.FitReport.{FitReport}
 use Rattle.reporting.specs.Answers.{Reported, Silent, Report, proposalReportTests, ProposalReport, ReportAnswer}

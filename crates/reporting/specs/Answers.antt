@@ -9,11 +9,11 @@ use Rattle.verdict.specs.Answer.{Answer, pass, answerOf, test, _orElse_}
 use Rattle.verdict.specs.declared.Rule.{Rule}
 use Rattle.mean.specs.declared.Mean.the-variants.{None}
 use Rattle.mean.specs.Mean.{meanOf}
-use Rattle.trees.specs.Limits.{maxEdges}
+use Rattle.tree_theory.specs.Limits.{maxEdges}
 use Rattle.lengths.specs.Limits.{maxNumerator}
-use Rattle.fit.specs.Quantities.{roundedOf, treeLength, fOf, rOf, hOf}
-use Rattle.fit.specs.Stands.{Stands, Least}
-use Rattle.fit.specs.Tests.{bufferOut, proposalTests, reportTests}
+use Rattle.fit_theory.specs.Quantities.{roundedOf, treeLength, fOf, rOf, hOf}
+use Rattle.fit_theory.specs.Stands.{Stands, Least}
+use Rattle.fit_theory.specs.Tests.{bufferOut, proposalTests, reportTests}
 use Rattle.reporting.specs.declared.FitReport.{FitReport}
 
 -- no tree length is farther from 0, over its denominator

@@ -8,7 +8,7 @@ use verdict::Rule;
 use verdict::Verdict;
 ghost use mathlib.Core.Path.{_≡_};
 ghost use lib.ListN.{length};
-ghost use Rattle.fit.specs.Stands.{Posted, Stands};
+ghost use Rattle.fit_theory.specs.Stands.{Posted, Stands};
 ghost use Rattle.reporting.specs.Answers.{Reported, Silent, ProposalReport, ReportAnswer};
 
 // The numbers of an accepted fit; of a refused one the verdict, and zeros. The tree length is length / denominator, the

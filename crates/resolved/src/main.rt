@@ -1,14 +1,14 @@
 // Reads a sheet without lengths from standard input and prints the direct fit of its tree, or `refused`, the
 // number and the place. Where reading fails it prints nothing.
 fn main() {
-    let mut space = desk::room();
-    let taken = desk::take_in(&mut space);
+    let mut space = streams::room();
+    let taken = streams::take_in(&mut space);
     if !taken.whole {
         return;
     }
-    let mut text = prints::page();
-    desk::put_out(
-        prints::unfitted_print(&space[..taken.count], &mut text),
+    let mut text = pages::page();
+    streams::put_out(
+        pages::unfitted_print(&space[..taken.count], &mut text),
         &text,
     );
 }

@@ -15,11 +15,11 @@ use Rattle.verdict.specs.declared.Refusal.{Refusal}
 use Rattle.verdict.specs.declared.Verdict.the-variants.{Accepted, Refused}
 use Rattle.verdict.specs.declared.Rule.{Rule}
 use Rattle.verdict.proofs.Answers.{not-pass}
-use Rattle.trees.specs.Limits.{maxEdges}
-use Rattle.trees.specs.EdgeTable.{EdgeTable}
-use Rattle.trees.proofs.EdgeTables.{front-kept, padded-kept}
-use Rattle.fit.specs.Quantities.{roundedOf}
-use Rattle.fit.specs.Tests.{bufferOut, proposalTests}
+use Rattle.tree_theory.specs.Limits.{maxEdges}
+use Rattle.tree_theory.specs.EdgeTable.{EdgeTable}
+use Rattle.tree_theory.proofs.EdgeTables.{front-kept, padded-kept}
+use Rattle.fit_theory.specs.Quantities.{roundedOf}
+use Rattle.fit_theory.specs.Tests.{bufferOut, proposalTests}
 use Rattle.reading.specs.declared.Sheet.{Sheet}
 use Rattle.reading.specs.Holds.{strainsOf, distancesOf, parentsOf, denominatorOf, edgesOf, numeratorAt, numeratorsOf}
 use Rattle.reading.specs.Reads.{Held, SheetAnswer}

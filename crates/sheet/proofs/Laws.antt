@@ -13,8 +13,8 @@ use Rattle.exact.specs.Table.{entryOf}
 use Rattle.verdict.specs.Answer.{Answer, pass, test, _orElse_}
 use Rattle.verdict.specs.declared.Rule.{Rule}
 use Rattle.verdict.specs.declared.Rule.the-variants.{Plain, Drawable}
-use Rattle.fit.specs.Stands.{Stands}
-use Rattle.fit.specs.Tests.{judgeTests}
+use Rattle.fit_theory.specs.Stands.{Stands}
+use Rattle.fit_theory.specs.Tests.{judgeTests}
 use Rattle.matrix.specs.Place.{Complete}
 use Rattle.matrix.specs.Tests.{matrixTests}
 use Rattle.records.specs.Form.{formTests}
@@ -25,11 +25,11 @@ use Rattle.sheet.specs.Reports.{SheetReport}
 use Rattle.sheet.proofs.Settled.{same-report}
 pub use Rattle.verdict.proofs.Answers.{same-answer, not-pass, refused-row, accepted-row, orElse-pass, pass-orElse, pass-test}
 pub use Rattle.mean.proofs.Divisor.{missing-none, three-none, four-over, none-three}
-pub use Rattle.fit.proofs.Exactly.{stands→, →stands, posted→, →posted}
-pub use Rattle.fit.proofs.Complete.{complete-parts, as-whole, complete-seen, complete-posted}
-pub use Rattle.fit.proofs.Demand3.{least, r-range}
-pub use Rattle.fit.proofs.OneFit.{one-fit, accepted-one, accepted-agree}
-pub use Rattle.fit.proofs.Joined.{drawable, drawable-too, all-positive}
+pub use Rattle.fit_theory.proofs.Exactly.{stands→, →stands, posted→, →posted}
+pub use Rattle.fit_theory.proofs.Complete.{complete-parts, as-whole, complete-seen, complete-posted}
+pub use Rattle.fit_theory.proofs.Demand3.{least, r-range}
+pub use Rattle.fit_theory.proofs.OneFit.{one-fit, accepted-one, accepted-agree}
+pub use Rattle.fit_theory.proofs.Joined.{drawable, drawable-too, all-positive}
 
 pub ruleset computes = (pass-orElse, pass-test)
 

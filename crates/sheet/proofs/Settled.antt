@@ -10,8 +10,8 @@ use Rattle.verdict.specs.Answer.{Answer, pass}
 use Rattle.verdict.specs.declared.Rule.{Rule}
 use Rattle.exact.specs.Table.{table}
 use Rattle.exact.proofs.Decide.{by-cases}
-use Rattle.trees.proofs.EdgeTables.{one-table}
-use Rattle.fit.specs.Quantities.{roundedOf}
+use Rattle.tree_theory.proofs.EdgeTables.{one-table}
+use Rattle.fit_theory.specs.Quantities.{roundedOf}
 use Rattle.reading.specs.Holds.{strainsOf, distancesOf, parentsOf, denominatorOf, numeratorsOf}
 use Rattle.reading.specs.Tests.{sheetTests}
 use Rattle.reporting.specs.declared.FitReport.{FitReport}

@@ -7,9 +7,9 @@ use lib.ListN.{length}
 use Rattle.exact.specs.Table.{table, entryOf}
 use Rattle.verdict.specs.Answer.{pass, answerOf}
 use Rattle.verdict.specs.declared.Rule.{Rule}
-use Rattle.trees.specs.Limits.{maxEdges}
-use Rattle.trees.specs.EdgeTable.{EdgeTable}
-use Rattle.fit.specs.Quantities.{roundedOf}
+use Rattle.tree_theory.specs.Limits.{maxEdges}
+use Rattle.tree_theory.specs.EdgeTable.{EdgeTable}
+use Rattle.fit_theory.specs.Quantities.{roundedOf}
 use Rattle.reading.specs.Holds.{strainsOf, distancesOf, parentsOf, denominatorOf, numeratorsOf}
 use Rattle.reading.specs.Tests.{sheetTests}
 use Rattle.reporting.specs.Answers.{Reported, Silent}

@@ -17,17 +17,17 @@ use Rattle.verdict.specs.declared.Verdict.the-variants.{Accepted, Refused}
 use Rattle.verdict.specs.declared.Verdict.{Verdict}
 use Rattle.verdict.proofs.Answers.{orElse-pass, orElse-assoc, refused-row, accepted-row, not-pass}
 use Rattle.matrix.specs.Place.{pairCount, rowPlace}
-use Rattle.trees.specs.Allowed.{Allowed}
-use Rattle.trees.specs.Chain.{parentOf}
-use Rattle.trees.specs.Tests.{treeTests}
-use Rattle.trees.proofs.Checked.{allowed→}
+use Rattle.tree_theory.specs.Allowed.{Allowed}
+use Rattle.tree_theory.specs.Chain.{parentOf}
+use Rattle.tree_theory.specs.Tests.{treeTests}
+use Rattle.tree_theory.proofs.Checked.{allowed→}
 use Rattle.lengths.specs.Tests.{lengthsTests}
 use Rattle.lengths.specs.Proper.{Proper}
 use Rattle.lengths.proofs.Checked.{→proper}
-use Rattle.fit.specs.Quantities.{splitSum, pathOf}
-use Rattle.fit.specs.Stands.{Posted}
-use Rattle.fit.specs.Tests.{bufferOut, postedTests, splitTests, pathsTests}
-use Rattle.fit.proofs.Exactly.{→posted}
+use Rattle.fit_theory.specs.Quantities.{splitSum, pathOf}
+use Rattle.fit_theory.specs.Stands.{Posted}
+use Rattle.fit_theory.specs.Tests.{bufferOut, postedTests, splitTests, pathsTests}
+use Rattle.fit_theory.proofs.Exactly.{→posted}
 use Rattle.tables.specs.Answers.{SplitAnswer, PathsAnswer}
 
 -- 15, as a refusal

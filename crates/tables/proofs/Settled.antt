@@ -15,9 +15,9 @@ use Rattle.verdict.specs.declared.Verdict.{Verdict}
 use Rattle.verdict.proofs.Answers.{passes, same-answer, orElse-pass, test-pass}
 use Rattle.matrix.specs.Place.{pairCount, rowPlace}
 use Rattle.matrix.proofs.Places.{row-place-onto}
-use Rattle.trees.specs.Tests.{treeTests}
+use Rattle.tree_theory.specs.Tests.{treeTests}
 use Rattle.lengths.specs.Tests.{lengthsTests}
-use Rattle.fit.specs.Tests.{splitTests, pathsTests, bufferOut}
+use Rattle.fit_theory.specs.Tests.{splitTests, pathsTests, bufferOut}
 use Rattle.tables.specs.Answers.{SplitAnswer, PathsAnswer}
 
 pub one-split : {N : ℕ} {ds ps : List ℕ} {before after after′ : List ℤ} {r r′ : Verdict}

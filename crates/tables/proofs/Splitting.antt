@@ -13,9 +13,9 @@ use Rattle.exact.proofs.Fill.{length-table, getD-table-const}
 use Rattle.exact.proofs.Quote.{by-ring, quote}
 use Rattle.exact.proofs.Sum.{sum-cong, sum-zero, pairs-sums, S-cong}
 use Rattle.matrix.specs.Place.{distance}
-use Rattle.trees.specs.Limits.{maxEdges}
-use Rattle.fit.specs.Quantities.{partsIn, splitSum}
-use Rattle.fit.specs.Stands.{Posted}
+use Rattle.tree_theory.specs.Limits.{maxEdges}
+use Rattle.fit_theory.specs.Quantities.{partsIn, splitSum}
+use Rattle.fit_theory.specs.Stands.{Posted}
 use Rattle.paths.specs.Standing.{Standing}
 use Rattle.pairs.specs.Ready.{Ready, InRange}
 use Rattle.matrix.proofs.Completes.{known-near}

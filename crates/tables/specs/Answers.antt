@@ -8,9 +8,9 @@ use Rattle.exact.specs.Table.{table, entryOf}
 use Rattle.verdict.specs.Answer.{pass, answerOf}
 use Rattle.verdict.specs.declared.Verdict.{Verdict}
 use Rattle.matrix.specs.Place.{rowPlace}
-use Rattle.trees.specs.EdgeTable.{EdgeTable}
-use Rattle.fit.specs.Quantities.{splitSum, pathOf}
-use Rattle.fit.specs.Tests.{splitTests, pathsTests}
+use Rattle.tree_theory.specs.EdgeTable.{EdgeTable}
+use Rattle.fit_theory.specs.Quantities.{splitSum, pathOf}
+use Rattle.fit_theory.specs.Tests.{splitTests, pathsTests}
 
 -- a table of every edge's split sum, zeros behind the last edge
 abbrev pub SplitTable : ℕ → List ℕ → List ℕ → List ℤ → Type 0

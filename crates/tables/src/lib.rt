@@ -11,9 +11,9 @@ ghost use lib.ListN.{length};
 ghost use Rattle.exact.specs.Table.{table, entryOf};
 ghost use Rattle.exact.specs.LeastSquares.{path};
 ghost use Rattle.matrix.specs.Place.{pairCount, rowPlace};
-ghost use Rattle.trees.specs.Limits.{maxEdges};
-ghost use Rattle.trees.specs.Chain.{parentOf, partsPair};
-ghost use Rattle.fit.specs.Stands.{Posted};
+ghost use Rattle.tree_theory.specs.Limits.{maxEdges};
+ghost use Rattle.tree_theory.specs.Chain.{parentOf, partsPair};
+ghost use Rattle.fit_theory.specs.Stands.{Posted};
 ghost use Rattle.paths.specs.Standing.{Standing, Small};
 ghost use Rattle.tables.specs.Answers.{SplitTable, SplitAnswer, PathsAnswer};
 

@@ -8,7 +8,7 @@ use Rattle.verdict.specs.Answer.{answerOf}
 use Rattle.verdict.proofs.Answers.{passes, same-answer}
 use Rattle.tree.specs.declared.Tree.{Tree}
 use Rattle.tree.specs.declared.Planted.{Planted}
-use Rattle.trees.specs.Tests.{treeTests}
+use Rattle.tree_theory.specs.Tests.{treeTests}
 use Rattle.tree.specs.Kept.{Kept, Blank, TreeAnswer}
 
 -- `check_tree`

@@ -12,7 +12,7 @@ use lib.Seq.{getD-set-same, getD-set-other}
 use Rattle.exact.proofs.Decide.{by-cases}
 use Rattle.verdict.specs.Table.{count}
 use Rattle.verdict.proofs.Table.{count-zero, count-suc}
-use Rattle.trees.specs.Chain.{kid}
+use Rattle.tree_theory.specs.Chain.{kid}
 
 -- entry w is how many of the vertices below v are children of w
 abbrev pub Tallied : (ℕ → ℕ) → ℕ → List ℕ → Type 0

@@ -7,9 +7,9 @@ use Rattle.exact.specs.Table.{table}
 use Rattle.verdict.specs.Answer.{pass, answerOf}
 use Rattle.tree.specs.declared.Tree.{Tree}
 use Rattle.tree.specs.declared.Planted.{Planted}
-use Rattle.trees.specs.Chain.{parentOf}
-use Rattle.trees.specs.Limits.{maxEdges}
-use Rattle.trees.specs.Tests.{treeTests}
+use Rattle.tree_theory.specs.Chain.{parentOf}
+use Rattle.tree_theory.specs.Limits.{maxEdges}
+use Rattle.tree_theory.specs.Tests.{treeTests}
 
 -- an allowed tree: its parents, followed by zeros
 pub record Kept (N : ℕ) (ps : List ℕ) (t : Tree) : Type 0 where

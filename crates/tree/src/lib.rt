@@ -13,10 +13,10 @@ ghost use lib.ListN.{length, getD};
 ghost use Rattle.exact.specs.Table.{table};
 ghost use Rattle.verdict.specs.Answer.{answerOf};
 ghost use Rattle.verdict.specs.Table.{first};
-ghost use Rattle.trees.specs.Chain.{parentOf};
-ghost use Rattle.trees.specs.Limits.{maxEdges, maxVertices};
-ghost use Rattle.trees.specs.Allowed.{children};
-ghost use Rattle.trees.specs.Tests.{treeTests, parentOut, childrenOut};
+ghost use Rattle.tree_theory.specs.Chain.{parentOf};
+ghost use Rattle.tree_theory.specs.Limits.{maxEdges, maxVertices};
+ghost use Rattle.tree_theory.specs.Allowed.{children};
+ghost use Rattle.tree_theory.specs.Tests.{treeTests, parentOut, childrenOut};
 ghost use Rattle.tree.specs.Kept.{TreeAnswer};
 
 // An allowed tree of n strains: its parents, then zeros.

@@ -12,7 +12,7 @@ use Rattle.exact.specs.LeastSquares.{path}
 use Rattle.verdict.specs.Table.{some, first, count}
 use Rattle.verdict.specs.declared.Rule.the-variants.{Plain}
 use Rattle.matrix.specs.Place.{place, known, pairAt, rowStart, rowPlace}
-use Rattle.trees.specs.Chain.{lift, below, parts}
+use Rattle.tree_theory.specs.Chain.{lift, below, parts}
 use Rattle.endian.specs.Bytes.{number, twos}
 use Rattle.records.specs.Form.{startOf, recordsTests, formTests}
 use Rattle.reading.specs.Holds.{strainsOf, distancesOf, treeStrainsOf, parentsOf, denominatorOf, numeratorsOf}

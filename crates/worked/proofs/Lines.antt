@@ -7,7 +7,7 @@ use lib.ListN.{getD}
 use Rattle.verdict.specs.declared.Place.the-variants.{Nowhere, Byte, Vertex, Edge, EdgeSum}
 use Rattle.verdict.specs.declared.Rule.the-variants.{Plain}
 use Rattle.mean.specs.declared.Mean.the-variants.{None, Over}
-use Rattle.text.specs.Text.{digits}
+use Rattle.writing.specs.Text.{digits}
 use Rattle.lines.specs.Lines.{fields, line, meanLine, refusedWord, refusedLine, edgeLines, fitText, resolvedText}
 
 -- "fit 4 5 2", five edges, "length 23", "square 2 1000000 44", "mean 2 2", each with its LF, as bytes

@@ -13,16 +13,16 @@ use Rattle.exact.specs.Fraction.{divisorIn}
 use Rattle.verdict.specs.Table.{some, first, count}
 use Rattle.verdict.specs.declared.Rule.the-variants.{Plain, Drawable}
 use Rattle.matrix.specs.Place.{place, known, pairAt, rowStart, rowPlace}
-use Rattle.trees.specs.Chain.{lift, below, parts}
-use Rattle.resolution.specs.Children.{childTo}
-use Rattle.resolution.specs.Averages.{size, between}
-use Rattle.text.specs.Text.{digits}
+use Rattle.tree_theory.specs.Chain.{lift, below, parts}
+use Rattle.direct_theory.specs.Children.{childTo}
+use Rattle.direct_theory.specs.Averages.{size, between}
+use Rattle.writing.specs.Text.{digits}
 use Rattle.lines.specs.Lines.{fields, edgeLines, fitText, resolvedText}
 use Rattle.worked.proofs.Lines.{sheet-a, tree-a}
 use Rattle.endian.specs.Bytes.{number}
 use Rattle.records.specs.Form.{startOf, recordsTests}
 use Rattle.worked.proofs.Bytes.{sheetA, bareA}
-use Rattle.prints.specs.Texts.{sheetText, unfittedText}
+use Rattle.pages.specs.Texts.{sheetText, unfittedText}
 
 pub print-of-a : sheetText Plain sheetA ≡ sheet-a
 unfolding sum pairs ind tableFrom path hops nearest some first count place known pairAt rowStart rowPlace lift below parts digits fields edgeLines fitText number startOf recordsTests

@@ -7,8 +7,8 @@ use lib.IntN.{ℤ, pos, _+ℤ_, _-ℤ_, _*ℤ_, natAbs}
 use mir.Syntax.{w64}
 use mir.Val.{SFits}
 use mir.Facts.{toZ-ofZ}
-use Rattle.resolution.specs.Splits.{twice, endOf}
-use Rattle.resolution.proofs.Steps.{twice-fits, end-bb, end-aa, end-left, end-right, end-last, end-sides, end-small, end-whole}
+use Rattle.direct_theory.specs.Splits.{twice, endOf}
+use Rattle.direct_theory.proofs.Steps.{twice-fits, end-bb, end-aa, end-left, end-right, end-last, end-sides, end-small, end-whole}
 use Rattle.averages.proofs.end_of.Statement.{statement}
 use Rattle.averages.proofs.end_of.Tie as tie
 

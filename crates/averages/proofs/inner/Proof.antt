@@ -9,8 +9,8 @@ use mir.Syntax.{w64}
 use mir.Val.{Fits, SFits, toZ, ofZ}
 use mir.Facts.{toZ-ofZ}
 use Rattle.exact.specs.Fraction.{_over_, Lowest}
-use Rattle.resolution.specs.Splits.{innerTop, innerBottom}
-use Rattle.resolution.proofs.Steps.{Whole, end-fits, inner-ab, inner-cd, inner-a+b, inner-c+d, inner-g, inner-g-small, inner-here, inner-there, inner-small, inner-whole, inner-abcd, inner-four, inner-bottom, whole-fits, whole-nonNeg, whole-some, whole-abs, whole-is}
+use Rattle.direct_theory.specs.Splits.{innerTop, innerBottom}
+use Rattle.direct_theory.proofs.Steps.{Whole, end-fits, inner-ab, inner-cd, inner-a+b, inner-c+d, inner-g, inner-g-small, inner-here, inner-there, inner-small, inner-whole, inner-abcd, inner-four, inner-bottom, whole-fits, whole-nonNeg, whole-some, whole-abs, whole-is}
 use Rattle.averages.proofs.inner.Statement.{statement}
 use Rattle.averages.proofs.inner.Tie as tie
 

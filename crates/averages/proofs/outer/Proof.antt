@@ -10,8 +10,8 @@ use mir.Syntax.{w64}
 use mir.Val.{Fits, SFits, toZ, ofZ}
 use mir.Facts.{toZ-ofZ}
 use Rattle.exact.specs.Fraction.{_over_, Lowest}
-use Rattle.resolution.specs.Splits.{twice, outerTop}
-use Rattle.resolution.proofs.Steps.{Whole, twice-fits, outer-near, outer-far, outer-both, outer-small, outer-whole, outer-bottom, outer-ab, whole-fits, whole-nonNeg, whole-some, whole-abs, whole-is}
+use Rattle.direct_theory.specs.Splits.{twice, outerTop}
+use Rattle.direct_theory.proofs.Steps.{Whole, twice-fits, outer-near, outer-far, outer-both, outer-small, outer-whole, outer-bottom, outer-ab, whole-fits, whole-nonNeg, whole-some, whole-abs, whole-is}
 use Rattle.averages.proofs.outer.Statement.{statement}
 use Rattle.averages.proofs.outer.Tie as tie
 

@@ -1,6 +1,6 @@
 -- The tests of the bits are the tests of the numbers.
 use mir.Facts.{toZ-ofZ}
-use Rattle.fit.proofs.Zeros.{bits-zero, bits-pass, bits-fail}
+use Rattle.fit_theory.proofs.Zeros.{bits-zero, bits-pass, bits-fail}
 use borrow.Author.Needs.{needs}
 use Rattle.balancing.proofs.at_fault.Statement.{statement}
 use Rattle.balancing.proofs.at_fault.Tie as tie

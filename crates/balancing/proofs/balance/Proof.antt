@@ -3,7 +3,7 @@ use mathlib.Core.Path.{sym, _∙_, ap, ap₂}
 use Rattle.verdict.specs.Answer.{_orElse_}
 use Rattle.verdict.specs.declared.Rule.{Rule}
 use Rattle.exact.specs.Table.{entryOf}
-use Rattle.fit.specs.Tests.{balanceTests}
+use Rattle.fit_theory.specs.Tests.{balanceTests}
 use borrow.Author.Needs.{needs}
 use Rattle.balancing.proofs.balance.Statement.{statement}
 use Rattle.balancing.proofs.balance.Tie as tie

@@ -4,8 +4,8 @@ use Prim.Native.Nat.{ℕ, _≤_, _-_}
 use native.Mathlib.Omega.{arith}
 use borrow.Author.Needs.{needs}
 use lib.ListN.{length}
-use Rattle.trees.specs.Allowed.{Allowed}
-use Rattle.trees.specs.Chain.{parentOf}
+use Rattle.tree_theory.specs.Allowed.{Allowed}
+use Rattle.tree_theory.specs.Chain.{parentOf}
 use Rattle.clusters.proofs.Handing.{Handed, hand-none, hand-more, hand-all}
 use Rattle.clusters.proofs.clusters.Statement.{statement}
 use Rattle.clusters.proofs.clusters.Tie as tie

@@ -1,7 +1,7 @@
 -- `has`: the code reads the digit as the definition does, and past the width there is none.
 use mathlib.Core.Path.{sym}
 use native.Mathlib.Omega.{arith}
-use Rattle.trees.proofs.Masks.{bit-past}
+use Rattle.tree_theory.proofs.Masks.{bit-past}
 use borrow.Author.Needs.{needs}
 use Rattle.clusters.proofs.has.Statement.{statement}
 use Rattle.clusters.proofs.has.Tie as tie

@@ -9,7 +9,7 @@ use borrow.Author.Tests.{lt-ltb, le-ltb}
 use lib.Dec.{ltb}
 use lib.ListN.{length, getD, length-set}
 use Rattle.exact.proofs.Fill.{Filled, fill-none, fill-more, filled-whole, length-table, getD-table-const, table-is}
-use Rattle.trees.proofs.Masks.{shl-one}
+use Rattle.tree_theory.proofs.Masks.{shl-one}
 use Rattle.clusters.proofs.own_bits.Statement.{statement}
 use Rattle.clusters.proofs.own_bits.Tie as tie
 

@@ -2,7 +2,7 @@
 use borrow.Author.Needs.{needs}
 use Prim.Native.Nat.{_+_, _*_, _-_}
 use native.Mathlib.Omega.{arith}
-use Rattle.trees.specs.Limits.{maxEdges}
+use Rattle.tree_theory.specs.Limits.{maxEdges}
 use Rattle.endian.specs.Bytes.{number, twos}
 use Rattle.records.proofs.Decoding.{Decoding, decode-start, decode-turn, decode-end}
 use mathlib.Core.Path.{_∙_}

@@ -11,16 +11,16 @@ use mir.Facts.{toZ-ofZ}
 use Rattle.exact.specs.Nearest.{nearest}
 use Rattle.exact.proofs.Sign.{fits-abs}
 use Rattle.matrix.specs.Limits.{maxDistance}
-use Rattle.trees.specs.Limits.{maxEdges}
-use Rattle.trees.specs.Chain.{parentOf}
+use Rattle.tree_theory.specs.Limits.{maxEdges}
+use Rattle.tree_theory.specs.Chain.{parentOf}
 use Rattle.exact.specs.Table.{entryOf}
 use Rattle.exact.specs.Fraction.{Fraction, lowestTop, lowestBottom, Lowest}
-use Rattle.resolution.specs.Formula.{edgeLength}
-use Rattle.resolution.specs.Lengths.{maxBottom}
-use Rattle.resolution.specs.Splits.{lengthBy}
+use Rattle.direct_theory.specs.Formula.{edgeLength}
+use Rattle.direct_theory.specs.Lengths.{maxBottom}
+use Rattle.direct_theory.specs.Splits.{lengthBy}
 use Rattle.exact.proofs.Divisors.{lowest-is, lowest-only}
-use Rattle.resolution.proofs.Around.{few-edges}
-use Rattle.resolution.proofs.Reduced.{Unreduced, unreduced, bottom-most, top-near, rounded-near}
+use Rattle.direct_theory.proofs.Around.{few-edges}
+use Rattle.direct_theory.proofs.Reduced.{Unreduced, unreduced, bottom-most, top-near, rounded-near}
 use Rattle.edge_lengths.proofs.Lowering.{Lowering, lowering-start, lowering-turn, lowering-end}
 use Rattle.edge_lengths.proofs.fill.Statement.{statement}
 use Rattle.edge_lengths.proofs.fill.Tie as tie

@@ -5,13 +5,13 @@ use native.Mathlib.Omega.{arith}
 use lib.IntN.{ℤ, natAbs}
 use lib.ListN.{length}
 use mir.Facts.{toZ-ofZ}
-use Rattle.trees.specs.Limits.{maxEdges}
-use Rattle.trees.specs.Chain.{parentOf}
+use Rattle.tree_theory.specs.Limits.{maxEdges}
+use Rattle.tree_theory.specs.Chain.{parentOf}
 use Rattle.exact.specs.Table.{entryOf}
-use Rattle.resolution.specs.Children.{childOf, sibling, farther}
-use Rattle.resolution.specs.Averages.{strainsBelow, neither, size}
-use Rattle.resolution.specs.Splits.{Sized, maxSplit}
-use Rattle.resolution.proofs.Around.{few-edges, first-edge, second-edge, sized-cluster, sized-neither, sized-fits, sum-fits, sibling-edge, farther-edge, inner-at}
+use Rattle.direct_theory.specs.Children.{childOf, sibling, farther}
+use Rattle.direct_theory.specs.Averages.{strainsBelow, neither, size}
+use Rattle.direct_theory.specs.Splits.{Sized, maxSplit}
+use Rattle.direct_theory.proofs.Around.{few-edges, first-edge, second-edge, sized-cluster, sized-neither, sized-fits, sum-fits, sibling-edge, farther-edge, inner-at}
 use Rattle.edge_lengths.proofs.inner_length.Statement.{statement}
 use Rattle.edge_lengths.proofs.inner_length.Tie as tie
 

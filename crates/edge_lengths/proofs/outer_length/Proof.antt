@@ -5,13 +5,13 @@ use native.Mathlib.Omega.{arith}
 use lib.IntN.{ℤ, natAbs}
 use lib.ListN.{length}
 use mir.Facts.{toZ-ofZ}
-use Rattle.trees.specs.Limits.{maxEdges}
-use Rattle.trees.specs.Chain.{parentOf}
+use Rattle.tree_theory.specs.Limits.{maxEdges}
+use Rattle.tree_theory.specs.Chain.{parentOf}
 use Rattle.exact.specs.Table.{entryOf}
-use Rattle.resolution.specs.Children.{sibling, farther}
-use Rattle.resolution.specs.Averages.{strainsBelow, neither, size}
-use Rattle.resolution.specs.Splits.{Sized, maxSplit}
-use Rattle.resolution.proofs.Around.{few-edges, sized-cluster, sized-neither, sized-fits, sum-fits, sibling-edge, farther-edge, outer-at}
+use Rattle.direct_theory.specs.Children.{sibling, farther}
+use Rattle.direct_theory.specs.Averages.{strainsBelow, neither, size}
+use Rattle.direct_theory.specs.Splits.{Sized, maxSplit}
+use Rattle.direct_theory.proofs.Around.{few-edges, sized-cluster, sized-neither, sized-fits, sum-fits, sibling-edge, farther-edge, outer-at}
 use Rattle.edge_lengths.proofs.outer_length.Statement.{statement}
 use Rattle.edge_lengths.proofs.outer_length.Tie as tie
 

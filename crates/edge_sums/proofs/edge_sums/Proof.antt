@@ -2,7 +2,7 @@
 use mathlib.Core.Path.{_∙_}
 use lib.IntN.{pos}
 use Rattle.exact.specs.Table.{entryOf}
-use Rattle.fit.proofs.Measured.{all-remainders}
+use Rattle.fit_theory.proofs.Measured.{all-remainders}
 use borrow.Author.Needs.{needs}
 use Rattle.edge_sums.proofs.edge_sums.Statement.{statement}
 use Rattle.edge_sums.proofs.edge_sums.Tie as tie

@@ -15,7 +15,7 @@ use Rattle.exact.proofs.Modular.{modulo-zero}
 use Rattle.exact.proofs.Sign.{fits-abs, back-pos}
 use Rattle.exact.proofs.Order.{≤-pos}
 use Rattle.matrix.specs.Place.{distance}
-use Rattle.fit.specs.Quantities.{partsIn}
+use Rattle.fit_theory.specs.Quantities.{partsIn}
 use Rattle.pairs.specs.Next.{ahead}
 use Rattle.pairs.proofs.Turns.{PairAt, pair-start, swept-start, pair-next, swept-end}
 use Rattle.fit_numbers.proofs.Terms.{term-whole, gathered-next, gathered-is}

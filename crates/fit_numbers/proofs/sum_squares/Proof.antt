@@ -11,10 +11,10 @@ use Rattle.exact.specs.Sum.{sweep, pairs}
 use Rattle.exact.specs.LeastSquares.{hops}
 use Rattle.exact.proofs.Sign.{fits-abs, back-pos}
 use Rattle.exact.proofs.Sweep.{sweep-end}
-use Rattle.fit.proofs.Ranges.{hops-sweep}
-use Rattle.fit.specs.Quantities.{partsIn}
+use Rattle.fit_theory.proofs.Ranges.{hops-sweep}
+use Rattle.fit_theory.specs.Quantities.{partsIn}
 use Rattle.matrix.specs.Limits.{maxPairs}
-use Rattle.trees.specs.Limits.{maxEdges}
+use Rattle.tree_theory.specs.Limits.{maxEdges}
 use Rattle.paths.proofs.Climb.{few-edges}
 use Rattle.pairs.specs.Next.{ahead}
 use Rattle.pairs.specs.Ready.{remainderAt}

@@ -2,7 +2,7 @@
 use native.Mathlib.Omega.{arith}
 use borrow.Author.Needs.{needs}
 use Rattle.matrix.proofs.Looking.{is-missing, is-measured}
-use Rattle.trees.proofs.Masks.{shl-one}
+use Rattle.tree_theory.proofs.Masks.{shl-one}
 use Rattle.gaps.proofs.bit_of.Statement.{statement}
 use Rattle.gaps.proofs.bit_of.Tie as tie
 

@@ -5,8 +5,8 @@ use native.Mathlib.Omega.{arith}
 use borrow.Author.Needs.{needs}
 use Rattle.matrix.specs.Place.{measured}
 use Rattle.matrix.proofs.Places.{place-bound, pairs-few}
-use Rattle.trees.specs.Cluster.{mask}
-use Rattle.trees.proofs.Masks.{mask-zero}
+use Rattle.tree_theory.specs.Cluster.{mask}
+use Rattle.tree_theory.proofs.Masks.{mask-zero}
 use Rattle.gaps.proofs.Parting.{column-turn, column-fits}
 use Rattle.gaps.proofs.column.Statement.{statement}
 use Rattle.gaps.proofs.column.Tie as tie

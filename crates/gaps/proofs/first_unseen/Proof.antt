@@ -7,7 +7,7 @@ use borrow.Author.Needs.{needs}
 use borrow.Author.Count.{below-none, below-more}
 use lib.ListN.{length}
 use Rattle.verdict.proofs.Table.{first-is, past-first}
-use Rattle.fit.specs.Tests.{unseen}
+use Rattle.fit_theory.specs.Tests.{unseen}
 use Rattle.gaps.proofs.Parting.{few-edges, unseen-is}
 use Rattle.gaps.proofs.first_unseen.Statement.{statement}
 use Rattle.gaps.proofs.first_unseen.Tie as tie

@@ -3,8 +3,8 @@ use mathlib.Core.Path.{sym, _∙_, ap}
 use borrow.Author.Needs.{needs}
 use Rattle.verdict.specs.Answer.{answerOf}
 use Rattle.verdict.proofs.Answers.{refused-row, accepted-row}
-use Rattle.fit.specs.Tests.{postedTests, proposalTests}
-use Rattle.fit.proofs.Exactly.{→posted}
+use Rattle.fit_theory.specs.Tests.{postedTests, proposalTests}
+use Rattle.fit_theory.proofs.Exactly.{→posted}
 use Rattle.judging.proofs.Judged.{judged}
 use Rattle.judging.proofs.judge.Statement.{statement}
 use Rattle.judging.proofs.judge.Tie as tie

@@ -5,7 +5,7 @@ use Rattle.verdict.specs.Answer.{answerOf, _orElse_}
 use Rattle.verdict.proofs.Answers.{refused-row, accepted-row}
 use Rattle.lengths.specs.Tests.{lengthsTests, signTests}
 use Rattle.lengths.proofs.Checked.{→proper}
-use Rattle.fit.specs.Tests.{sumsTests}
+use Rattle.fit_theory.specs.Tests.{sumsTests}
 use borrow.Author.Needs.{needs}
 use Rattle.judging.proofs.judge_proposal.Statement.{statement}
 use Rattle.judging.proofs.judge_proposal.Tie as tie

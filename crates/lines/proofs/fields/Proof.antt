@@ -11,9 +11,9 @@ use lib.Seq.{length-take-le, take-length}
 use mir.Facts.{toZ-ofZ}
 use mir.Syntax.{w64}
 use Rattle.exact.specs.Table.{entryOf}
-use Rattle.text.specs.Text.{signed, Wrote}
-use Rattle.text.proofs.Writing.{wrote-none, wrote-then}
-use Rattle.text.proofs.Decimals.{signed-length}
+use Rattle.writing.specs.Text.{signed, Wrote}
+use Rattle.writing.proofs.Writing.{wrote-none, wrote-then}
+use Rattle.writing.proofs.Decimals.{signed-length}
 use Rattle.lines.specs.Lines.{fields}
 use Rattle.lines.proofs.Pieces.{fields-more}
 use Rattle.lines.proofs.Sizes.{fields-length}

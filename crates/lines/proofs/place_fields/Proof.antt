@@ -4,7 +4,7 @@ use native.Mathlib.Omega.{arith}
 use lib.IntN.{pos}
 use mir.Facts.{toZ-ofZ}
 use mir.Syntax.{w64}
-use Rattle.text.proofs.Writing.{wrote-none}
+use Rattle.writing.proofs.Writing.{wrote-none}
 use Rattle.lines.proofs.Pieces.{wrote-place, wrote-sum}
 use Rattle.lines.proofs.Sizes.{fields-length}
 use borrow.Author.Needs.{needs}

@@ -9,12 +9,12 @@ use mir.Syntax.{w64}
 use mir.Val.{SFits, toZ}
 use mir.Facts.{toZ-ofZ}
 use Rattle.exact.proofs.Sign.{back-pos, fits-abs, natAbs-sub}
-use Rattle.trees.specs.Chain.{parentOf}
-use Rattle.resolution.specs.Splits.{Sized}
-use Rattle.resolution.proofs.Children.{Sibling, sibling-is}
-use Rattle.resolution.proofs.Sizes.{size-neither}
-use Rattle.resolution.proofs.Steps.{sized-abs}
-use Rattle.resolution.proofs.Around.{sized-cluster, sized-fits}
+use Rattle.tree_theory.specs.Chain.{parentOf}
+use Rattle.direct_theory.specs.Splits.{Sized}
+use Rattle.direct_theory.proofs.Children.{Sibling, sibling-is}
+use Rattle.direct_theory.proofs.Sizes.{size-neither}
+use Rattle.direct_theory.proofs.Steps.{sized-abs}
+use Rattle.direct_theory.proofs.Around.{sized-cluster, sized-fits}
 use Rattle.neighbours.proofs.beyond.Statement.{statement}
 use Rattle.neighbours.proofs.beyond.Tie as tie
 

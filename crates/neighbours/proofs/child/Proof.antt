@@ -2,7 +2,7 @@
 use native.Mathlib.Omega.{arith}
 use borrow.Author.Needs.{needs}
 use lib.ListN.{length}
-use Rattle.trees.specs.Chain.{parentOf}
+use Rattle.tree_theory.specs.Chain.{parentOf}
 use Rattle.neighbours.proofs.Listing.{child-le}
 use Rattle.neighbours.proofs.child.Statement.{statement}
 use Rattle.neighbours.proofs.child.Tie as tie

@@ -7,10 +7,10 @@ use borrow.Author.Needs.{needs}
 use lib.ListN.{length, getD, set, length-set}
 use Rattle.exact.proofs.Fill.{length-table, getD-table-const}
 use Rattle.verdict.specs.Table.{count}
-use Rattle.trees.specs.Limits.{maxEdges, maxVertices}
-use Rattle.trees.specs.Chain.{parentOf, kid}
+use Rattle.tree_theory.specs.Limits.{maxEdges, maxVertices}
+use Rattle.tree_theory.specs.Chain.{parentOf, kid}
 use Rattle.tree.proofs.Tally.{Tallied, tally-none, tally-more}
-use Rattle.resolution.specs.Children.{childTo}
+use Rattle.direct_theory.specs.Children.{childTo}
 use Rattle.neighbours.specs.Listed.{childRoom}
 use Rattle.neighbours.proofs.Listing.{Lists, lists-none, lists-more, room}
 use Rattle.neighbours.proofs.child_table.Statement.{statement}

@@ -4,8 +4,8 @@ use mathlib.Core.Logic.{_≢_, ⊎-elim}
 use native.Mathlib.Omega.{arith}
 use borrow.Author.Needs.{needs}
 use lib.ListN.{length}
-use Rattle.trees.specs.Chain.{parentOf}
-use Rattle.resolution.specs.Children.{childOf}
+use Rattle.tree_theory.specs.Chain.{parentOf}
+use Rattle.direct_theory.specs.Children.{childOf}
 use Rattle.neighbours.proofs.Listing.{farther-second, farther-child, farther-own}
 use Rattle.neighbours.proofs.farther.Statement.{statement}
 use Rattle.neighbours.proofs.farther.Tie as tie

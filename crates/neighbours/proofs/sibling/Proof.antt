@@ -3,7 +3,7 @@ use mathlib.Core.Path.{sym, _∙_}
 use native.Mathlib.Omega.{arith}
 use borrow.Author.Needs.{needs}
 use lib.ListN.{length}
-use Rattle.trees.specs.Chain.{parentOf}
+use Rattle.tree_theory.specs.Chain.{parentOf}
 use Rattle.neighbours.proofs.Listing.{sibling-first, sibling-second}
 use Rattle.neighbours.proofs.sibling.Statement.{statement}
 use Rattle.neighbours.proofs.sibling.Tie as tie

@@ -8,10 +8,10 @@ use mir.Val.{toZ}
 use Rattle.exact.proofs.Sign.{back-pos}
 use Rattle.verdict.specs.Table.{count}
 use Rattle.verdict.proofs.Table.{count-le}
-use Rattle.trees.specs.Chain.{parentOf, below}
-use Rattle.trees.proofs.Masks.{cluster-size}
-use Rattle.resolution.specs.Averages.{strainsBelow}
-use Rattle.resolution.proofs.Sizes.{size-count}
+use Rattle.tree_theory.specs.Chain.{parentOf, below}
+use Rattle.tree_theory.proofs.Masks.{cluster-size}
+use Rattle.direct_theory.specs.Averages.{strainsBelow}
+use Rattle.direct_theory.proofs.Sizes.{size-count}
 use Rattle.neighbours.proofs.strains.Statement.{statement}
 use Rattle.neighbours.proofs.strains.Tie as tie
 

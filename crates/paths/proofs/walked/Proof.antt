@@ -1,6 +1,6 @@
 -- `walked`: the two ways' sums are the path, and their counts its edges, which are no more than the tree's.
 use borrow.Author.Needs.{needs}
-use Rattle.trees.specs.Chain.{parentOf}
+use Rattle.tree_theory.specs.Chain.{parentOf}
 use Rattle.paths.proofs.Climb.{few-edges}
 use Rattle.paths.proofs.Adding.{path-fits, path-is}
 use Rattle.paths.proofs.Counting.{hops-is, hops-at-most}

@@ -7,7 +7,7 @@ use borrow.Author.Needs.{needs}
 use lib.IntN.{pos}
 use mir.Syntax.{w64}
 use mir.Val.{toZ}
-use Rattle.trees.specs.Chain.{parentOf}
+use Rattle.tree_theory.specs.Chain.{parentOf}
 use Rattle.exact.specs.Table.{entryOf}
 use Rattle.paths.proofs.Climb.{ClimbAt, Off, few-edges, parted-off, parted-met, climb-start, climb-next}
 use Rattle.paths.proofs.Adding.{added, added-start, added-all, sum-fits, sum-next}

@@ -3,7 +3,7 @@ use mathlib.Core.Path.{_≡_, _∙_, ap₂}
 use mathlib.Core.List.{List}
 use Prim.Native.Nat.{ℕ}
 use Rattle.verdict.specs.Answer.{answerOf, _orElse_}
-use Rattle.fit.specs.Tests.{shapeTests}
+use Rattle.fit_theory.specs.Tests.{shapeTests}
 use Rattle.posting.proofs.Posting.{refused, shaped, complete, behind}
 use borrow.Author.Needs.{needs}
 use Rattle.posting.proofs.check_posting.Statement.{statement}

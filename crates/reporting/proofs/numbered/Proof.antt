@@ -11,7 +11,7 @@ use Rattle.matrix.specs.Limits.{maxPairs}
 use Rattle.matrix.specs.Place.{pairCount}
 use Rattle.matrix.proofs.Places.{pairs-few}
 use Rattle.lengths.specs.Limits.{maxDenominator}
-use Rattle.fit.proofs.Demand3.{least}
+use Rattle.fit_theory.proofs.Demand3.{least}
 use Rattle.pairs.proofs.Lent.{standing, ready, in-range}
 use Rattle.reporting.proofs.Numbers.{posted, edges-few, total-near, total-is, fits-of, f-fits, h-fits, ready-rounded, r-same, r-fits, rounded-is}
 use borrow.Author.Needs.{needs}

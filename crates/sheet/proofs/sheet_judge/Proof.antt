@@ -2,8 +2,8 @@
 use mathlib.Core.Path.{_≡_, sym, _∙_}
 use native.Mathlib.Omega.{arith}
 use Rattle.verdict.specs.Answer.{answerOf}
-use Rattle.fit.specs.Stands.{Posted}
-use Rattle.fit.specs.Tests.{proposalTests}
+use Rattle.fit_theory.specs.Stands.{Posted}
+use Rattle.fit_theory.specs.Tests.{proposalTests}
 use Rattle.reading.proofs.Parts.{Parts, Lengths, accepted, read-parts, read-posted, read-lengths, of-lengths, to-parts}
 use Rattle.reading.proofs.Whole.{sheet-asked, refused-whole}
 use borrow.Author.Needs.{needs}

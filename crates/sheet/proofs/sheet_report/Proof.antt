@@ -2,7 +2,7 @@
 use mathlib.Core.Path.{_≡_, sym, _∙_, ap}
 use native.Mathlib.Omega.{arith}
 use Rattle.verdict.specs.Answer.{answerOf}
-use Rattle.fit.specs.Stands.{Posted}
+use Rattle.fit_theory.specs.Stands.{Posted}
 use Rattle.reading.proofs.Parts.{Parts, Lengths, read-parts, read-posted, read-lengths, to-parts}
 use Rattle.reading.proofs.Whole.{refused-whole}
 use Rattle.sheet.proofs.Fits.{refused-sheet, front-there, front-size, asked, fitted-sheet}

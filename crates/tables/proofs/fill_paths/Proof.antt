@@ -8,7 +8,7 @@ use lib.ListN.{length}
 use Rattle.exact.proofs.Sign.{back}
 use Rattle.exact.specs.LeastSquares.{path}
 use Rattle.matrix.proofs.Places.{row-place-bound}
-use Rattle.trees.specs.Chain.{parentOf, partsPair}
+use Rattle.tree_theory.specs.Chain.{parentOf, partsPair}
 use Rattle.exact.specs.Table.{entryOf}
 use Rattle.paths.proofs.Bounds.{path-near}
 use Rattle.pairs.specs.Next.{ahead}

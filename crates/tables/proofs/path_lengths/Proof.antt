@@ -1,7 +1,7 @@
 -- `path_lengths`: the tests by their answers, the buffer last, then each pair's path.
 use mathlib.Core.Path.{_≡_, sym, _∙_, ap₂}
 use Rattle.verdict.specs.Answer.{answerOf, _orElse_}
-use Rattle.trees.specs.Tests.{treeTests}
+use Rattle.tree_theory.specs.Tests.{treeTests}
 use Rattle.lengths.specs.Tests.{lengthsTests}
 use lib.ListN.{length}
 use Rattle.pairs.proofs.Lent.{standing, small}

@@ -1,7 +1,7 @@
 -- `split_sums`: the matrix with the tree, the buffer last, then each edge's split sum.
 use mathlib.Core.Path.{sym, _∙_, ap}
 use Rattle.verdict.specs.Answer.{pass, answerOf}
-use Rattle.fit.specs.Stands.{Posted}
+use Rattle.fit_theory.specs.Stands.{Posted}
 use Rattle.pairs.proofs.Lent.{standing, few-edges}
 use Rattle.tables.proofs.Lent.{split-refused, split-posted, split-buffer, split-filled}
 use borrow.Author.Needs.{needs}

@@ -10,11 +10,11 @@ use Rattle.verdict.specs.declared.Place.the-variants.{Vertex}
 use Rattle.verdict.specs.Answer.{fault, pass}
 use Rattle.verdict.specs.Table.{first}
 use Rattle.verdict.proofs.Table.{first-past, first-cong}
-use Rattle.trees.specs.Chain.{parentOf}
-use Rattle.trees.specs.Limits.{maxEdges}
-use Rattle.trees.specs.Tests.{treeTests, parentOut, parentFault, childrenFew, childrenOut}
-use Rattle.trees.proofs.Faults.{parent-ok, few-is}
-use Rattle.trees.proofs.Numbers.{Sized, too-few, too-many, short, long, badVertex, shortVertex, parent-refused, children-refused, accepted}
+use Rattle.tree_theory.specs.Chain.{parentOf}
+use Rattle.tree_theory.specs.Limits.{maxEdges}
+use Rattle.tree_theory.specs.Tests.{treeTests, parentOut, parentFault, childrenFew, childrenOut}
+use Rattle.tree_theory.proofs.Faults.{parent-ok, few-is}
+use Rattle.tree_theory.proofs.Numbers.{Sized, too-few, too-many, short, long, badVertex, shortVertex, parent-refused, children-refused, accepted}
 use Rattle.tree.proofs.check_tree.Statement.{statement}
 use Rattle.tree.proofs.check_tree.Tie as tie
 

@@ -7,7 +7,7 @@ use borrow.Author.Needs.{needs}
 use lib.ListN.{length, getD, length-set}
 use Rattle.exact.proofs.Fill.{length-table, getD-table-const}
 use Rattle.verdict.proofs.Table.{count-le}
-use Rattle.trees.specs.Chain.{parentOf, kid}
+use Rattle.tree_theory.specs.Chain.{parentOf, kid}
 use Rattle.tree.proofs.Tally.{Tallied, tally-none, tally-more}
 use Rattle.tree.proofs.child_counts.Statement.{statement}
 use Rattle.tree.proofs.child_counts.Tie as tie

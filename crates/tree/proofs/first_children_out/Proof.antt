@@ -8,10 +8,10 @@ use borrow.Author.Count.{below-more}
 use lib.Dec.{ltb}
 use lib.ListN.{length, getD}
 use Rattle.verdict.proofs.Table.{first-is, past-first}
-use Rattle.trees.specs.Chain.{parentOf}
-use Rattle.trees.specs.Allowed.{children}
-use Rattle.trees.specs.Tests.{childrenOut}
-use Rattle.trees.proofs.Faults.{strain-passes, inner-asked, root-asked}
+use Rattle.tree_theory.specs.Chain.{parentOf}
+use Rattle.tree_theory.specs.Allowed.{children}
+use Rattle.tree_theory.specs.Tests.{childrenOut}
+use Rattle.tree_theory.proofs.Faults.{strain-passes, inner-asked, root-asked}
 use Rattle.tree.proofs.first_children_out.Statement.{statement}
 use Rattle.tree.proofs.first_children_out.Tie as tie
 

@@ -7,9 +7,9 @@ use borrow.Author.Needs.{needs}
 use borrow.Author.Count.{below-none, below-more}
 use lib.ListN.{length}
 use Rattle.verdict.proofs.Table.{first-is, past-first}
-use Rattle.trees.specs.Chain.{parentOf}
-use Rattle.trees.specs.Tests.{parentOut}
-use Rattle.trees.proofs.Faults.{not-above, at-strain, past-root, parent-in}
+use Rattle.tree_theory.specs.Chain.{parentOf}
+use Rattle.tree_theory.specs.Tests.{parentOut}
+use Rattle.tree_theory.proofs.Faults.{not-above, at-strain, past-root, parent-in}
 use Rattle.tree.proofs.first_parent_out.Statement.{statement}
 use Rattle.tree.proofs.first_parent_out.Tie as tie
 

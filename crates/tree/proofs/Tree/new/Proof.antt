@@ -4,8 +4,8 @@ use native.Mathlib.Omega.{arith}
 use borrow.Author.Needs.{needs}
 use Rattle.verdict.specs.Answer.{pass, answerOf}
 use Rattle.verdict.proofs.Answers.{not-pass}
-use Rattle.trees.specs.Tests.{treeTests}
-use Rattle.trees.proofs.Checked.{allowed→}
+use Rattle.tree_theory.specs.Tests.{treeTests}
+use Rattle.tree_theory.proofs.Checked.{allowed→}
 use Rattle.tree.proofs.Tree.new.Statement.{statement}
 use Rattle.tree.proofs.Tree.new.Tie as tie
 

@@ -1,0 +1,50 @@
+-- The prints as functions of a sheet's bytes, and what a writer of one leaves.
+use mathlib.Core.Path.{_≡_}
+use mathlib.Core.List.{List}
+use Prim.Native.Nat.{ℕ, _≤_, _<_}
+use lib.ListN.{length}
+use Rattle.exact.specs.Table.{entryOf}
+use Rattle.verdict.specs.declared.Rule.{Rule}
+use Rattle.mean.specs.Mean.{meanOf}
+use Rattle.fit_theory.specs.Quantities.{treeLength, fOf, rOf, hOf, roundedOf}
+use Rattle.direct_theory.specs.Lengths.{topOf, bottomOf, thousandthOf, squareOf}
+use Rattle.writing.specs.Text.{Wrote}
+use Rattle.lines.specs.Lines.{fitText, resolvedText}
+use Rattle.lines.specs.Page.{pageSize}
+use Rattle.reading.specs.Holds.{strainsOf, distancesOf, parentsOf, denominatorOf, numeratorsOf}
+use Rattle.reading.specs.Tests.{sheetTests}
+use Rattle.unfitted_sheet.specs.Fits.{unfittedTests}
+use Rattle.answer_lines.specs.Texts.{byAnswer}
+
+-- fit or fit0, N K D; edge, n, m for each edge; the tree length's numerator; F, R, H; the mean square
+abbrev pub fitOfSheet : Rule → List ℕ → List ℕ
+fitOfSheet rule s =
+    fitText rule (strainsOf s) (length (parentsOf s)) (denominatorOf s) (entryOf (numeratorsOf s)) (roundedOf (denominatorOf s) (numeratorsOf s)) (treeLength (numeratorsOf s))
+    (fOf (strainsOf s) (distancesOf s) (parentsOf s) (denominatorOf s) (numeratorsOf s))
+    (rOf (strainsOf s) (distancesOf s) (parentsOf s) (denominatorOf s) (numeratorsOf s))
+    (hOf (strainsOf s) (distancesOf s) (parentsOf s))
+    (meanOf (strainsOf s) (distancesOf s) (length (parentsOf s)) (denominatorOf s))
+
+-- the print of a sheet by a rule
+abbrev pub sheetText : Rule → List ℕ → List ℕ
+sheetText rule s = byAnswer (sheetTests rule s) (fitOfSheet rule s)
+
+-- resolved N K; edge, the numerator and the denominator of its length, m for each edge; R, H
+abbrev pub fitOfUnfitted : List ℕ → List ℕ
+fitOfUnfitted s =
+    resolvedText (strainsOf s) (length (parentsOf s))
+    (topOf (strainsOf s) (distancesOf s) (parentsOf s))
+    (bottomOf (strainsOf s) (distancesOf s) (parentsOf s))
+    (thousandthOf (strainsOf s) (distancesOf s) (parentsOf s))
+    (squareOf (strainsOf s) (distancesOf s) (parentsOf s))
+    (hOf (strainsOf s) (distancesOf s) (parentsOf s))
+
+-- the print of a sheet without lengths
+abbrev pub unfittedText : List ℕ → List ℕ
+unfittedText s = byAnswer (unfittedTests s) (fitOfUnfitted s)
+
+-- a text at the front of a buffer of a page or more; one that is smaller is left as it was
+pub record Shown (text before after : List ℕ) (next : ℕ) : Type 0 where
+  pub written : pageSize ≤ length before → Wrote before after 0 text next
+  pub short : length before < pageSize → (next ≡ 0) × (after ≡ before)
+  pub within : next ≤ length after

@@ -1,0 +1,29 @@
+-- `came_to`: the tests of the number, and of any other the count.
+use mathlib.Core.Path.{_≡_, sym, _∙_, ap}
+use lib.IntN.{ℤ, pos}
+use lib.ListN.{length}
+use mir.Syntax.{w64}
+use mir.Val.{toZ, ofZ}
+use mir.Facts.{toZ-ofZ}
+use Rattle.io.specs.Counts.{clamped}
+use Rattle.streams.specs.declared.Step.the-variants.{More}
+use Rattle.streams.proofs.Stepping.{failed, ended, went-on, both}
+use borrow.Author.Needs.{needs}
+use Rattle.streams.proofs.came_to.Statement.{statement}
+use Rattle.streams.proofs.came_to.Tie as tie
+
+returns : tie.Need-returns
+returns c = let s = c .before .before in both (s .args .got) (length (s .args .left .now)) _ (failed (s .args .got) (length (s .args .left .now)) (simp (toZ-ofZ (s .fits .got)) at (c .if1 .taken)))
+
+returns-2 : tie.Need-returns-2
+returns-2 c = let s = c .before .before .before in both (s .args .got) (length (s .args .left .now)) _ (ended (s .args .got) (length (s .args .left .now)) (sym (toZ-ofZ (s .fits .got)) ∙ ap (toZ w64) (c .if2 .taken)))
+
+count-requires : tie.Need-count-requires
+count-requires c κs = search needs
+
+returns-3 : tie.Need-returns-3
+returns-3 c = let s = c .before .before .before .before in
+    both (s .args .got) (length (s .args .left .now)) _ (ap More (c .count .ensures .1 ∙ ap (λ (z : ℤ). clamped z (length (s .args .left .now))) (toZ-ofZ (s .fits .got))) ∙ went-on (s .args .got) (length (s .args .left .now)) (simp (toZ-ofZ (s .fits .got)) at (c .before .before .if1 .left)) (λ e. c .before .if2 .left (ap (ofZ w64) e)))
+
+pub came-to-spec : {M : Type 1} → statement M
+came-to-spec = tie.close (tie.spec returns returns-2 count-requires returns-3)
