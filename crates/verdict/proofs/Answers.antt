@@ -6,7 +6,7 @@ use native.Mathlib.Omega.{arith}
 use borrow.Author.Tests.{lt-ltb, le-ltb}
 use lib.Dec.{T, eqb, ltb}
 use Rattle.verdict.specs.declared.Reason.{Reason}
-use Rattle.verdict.specs.declared.Reason.the-variants.{SheetTooLong, RecordCut, WrongKind, WrongCounts, BytesLeft, Strains, Distance, Vertices, Parent, Children, Edges, Denominator, Numerator, Remainders, Buffer, PastRoot, Negative, ZeroEdge, Unresolved, Unmeasured}
+use Rattle.verdict.specs.declared.Reason.the-variants.{SheetTooLong, RecordCut, WrongKind, WrongCounts, BytesLeft, Strains, Distance, Vertices, Parent, Children, Edges, Denominator, Numerator, Remainders, Buffer, PastRoot, Text, Decimal, Halves, Bench, Nothing, Negative, ZeroEdge, Pair, Unresolved, Unmeasured, Matrices, Newick, Names}
 use Rattle.verdict.specs.declared.Place.{Place}
 use Rattle.verdict.specs.declared.Refusal.{Refusal}
 use Rattle.verdict.specs.declared.Verdict.{Verdict}
@@ -21,9 +21,11 @@ reasonOf k =
     cond (eqb k 1) SheetTooLong (cond (eqb k 2) RecordCut (cond (eqb k 3) WrongKind (cond (eqb k 4) WrongCounts (
     cond (eqb k 5) BytesLeft (cond (eqb k 6) Strains (cond (eqb k 7) Distance (cond (eqb k 8) Vertices (
     cond (eqb k 9) Parent (cond (eqb k 10) Children (cond (eqb k 11) Edges (cond (eqb k 12) Denominator (
-    cond (eqb k 13) Numerator (cond (eqb k 14) Remainders (cond (eqb k 15) Buffer (
-    cond (eqb k 16) PastRoot (cond (eqb k 22) Negative (cond (eqb k 23) ZeroEdge (
-    cond (eqb k 25) Unresolved Unmeasured))))))))))))))))))
+    cond (eqb k 13) Numerator (cond (eqb k 14) Remainders (cond (eqb k 15) Buffer (cond (eqb k 16) PastRoot (
+    cond (eqb k 17) Text (cond (eqb k 18) Decimal (cond (eqb k 19) Halves (cond (eqb k 20) Bench (
+    cond (eqb k 21) Nothing (cond (eqb k 22) Negative (cond (eqb k 23) ZeroEdge (cond (eqb k 24) Pair (
+    cond (eqb k 25) Unresolved (cond (eqb k 26) Unmeasured (cond (eqb k 27) Matrices (cond (eqb k 28) Newick (
+    Names))))))))))))))))))))))))))))
 
 abbrev verdictOf : Answer → Verdict
 verdictOf pass = Accepted
@@ -46,10 +48,19 @@ refused-back Numerator p = refl
 refused-back Remainders p = refl
 refused-back Buffer p = refl
 refused-back PastRoot p = refl
+refused-back Text p = refl
+refused-back Decimal p = refl
+refused-back Halves p = refl
+refused-back Bench p = refl
+refused-back Nothing p = refl
 refused-back Negative p = refl
 refused-back ZeroEdge p = refl
+refused-back Pair p = refl
 refused-back Unresolved p = refl
 refused-back Unmeasured p = refl
+refused-back Matrices p = refl
+refused-back Newick p = refl
+refused-back Names p = refl
 
 answer-back : (v : Verdict) → verdictOf (answerOf v) ≡ v
 answer-back Accepted = refl

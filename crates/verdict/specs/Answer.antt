@@ -3,7 +3,7 @@ use mathlib.Core.Bool.{Bool, true, false, cond}
 use Prim.Native.Nat.{ℕ}
 use lib.Dec.{ltb}
 use Rattle.verdict.specs.declared.Reason.{Reason}
-use Rattle.verdict.specs.declared.Reason.the-variants.{SheetTooLong, RecordCut, WrongKind, WrongCounts, BytesLeft, Strains, Distance, Vertices, Parent, Children, Edges, Denominator, Numerator, Remainders, Buffer, PastRoot, Negative, ZeroEdge, Unresolved, Unmeasured}
+use Rattle.verdict.specs.declared.Reason.the-variants.{SheetTooLong, RecordCut, WrongKind, WrongCounts, BytesLeft, Strains, Distance, Vertices, Parent, Children, Edges, Denominator, Numerator, Remainders, Buffer, PastRoot, Text, Decimal, Halves, Bench, Nothing, Negative, ZeroEdge, Pair, Unresolved, Unmeasured, Matrices, Newick, Names}
 use Rattle.verdict.specs.declared.Place.{Place}
 use Rattle.verdict.specs.declared.Place.the-variants.{Nowhere}
 use Rattle.verdict.specs.declared.Refusal.{Refusal}
@@ -29,10 +29,19 @@ reasonNumber Numerator = 13
 reasonNumber Remainders = 14
 reasonNumber Buffer = 15
 reasonNumber PastRoot = 16
+reasonNumber Text = 17
+reasonNumber Decimal = 18
+reasonNumber Halves = 19
+reasonNumber Bench = 20
+reasonNumber Nothing = 21
 reasonNumber Negative = 22
 reasonNumber ZeroEdge = 23
+reasonNumber Pair = 24
 reasonNumber Unresolved = 25
 reasonNumber Unmeasured = 26
+reasonNumber Matrices = 27
+reasonNumber Newick = 28
+reasonNumber Names = 29
 
 -- an answer: it passes, or it is a number of refusal at a place
 pub data Answer : Type 0 where

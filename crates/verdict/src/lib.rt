@@ -21,10 +21,19 @@ pub enum Reason {
     Remainders,
     Buffer,
     PastRoot,
+    Text,
+    Decimal,
+    Halves,
+    Bench,
+    Nothing,
     Negative,
     ZeroEdge,
+    Pair,
     Unresolved,
     Unmeasured,
+    Matrices,
+    Newick,
+    Names,
 }
 
 // Where the fault is: the lowest byte, vertex or edge at fault, an edge with its sum, or no place of its own.
@@ -74,10 +83,19 @@ fn reason_number(reason: Reason) -> u32
         Reason::Remainders => 14,
         Reason::Buffer => 15,
         Reason::PastRoot => 16,
+        Reason::Text => 17,
+        Reason::Decimal => 18,
+        Reason::Halves => 19,
+        Reason::Bench => 20,
+        Reason::Nothing => 21,
         Reason::Negative => 22,
         Reason::ZeroEdge => 23,
+        Reason::Pair => 24,
         Reason::Unresolved => 25,
         Reason::Unmeasured => 26,
+        Reason::Matrices => 27,
+        Reason::Newick => 28,
+        Reason::Names => 29,
     }
 }
 

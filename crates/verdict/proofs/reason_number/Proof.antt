@@ -65,6 +65,33 @@ enum-told-19 c = search needs
 enum-told-20 : tie.Need-enum-told-20
 enum-told-20 c = search needs
 
+enum-told-21 : tie.Need-enum-told-21
+enum-told-21 c = search needs
+
+enum-told-22 : tie.Need-enum-told-22
+enum-told-22 c = search needs
+
+enum-told-23 : tie.Need-enum-told-23
+enum-told-23 c = search needs
+
+enum-told-24 : tie.Need-enum-told-24
+enum-told-24 c = search needs
+
+enum-told-25 : tie.Need-enum-told-25
+enum-told-25 c = search needs
+
+enum-told-26 : tie.Need-enum-told-26
+enum-told-26 c = search needs
+
+enum-told-27 : tie.Need-enum-told-27
+enum-told-27 c = search needs
+
+enum-told-28 : tie.Need-enum-told-28
+enum-told-28 c = search needs
+
+enum-told-29 : tie.Need-enum-told-29
+enum-told-29 c = search needs
+
 returns : tie.Need-returns
 returns c = ap reasonNumber (sym (c .enum-told .given .1))
 
@@ -125,6 +152,33 @@ returns-19 c = ap reasonNumber (sym (c .enum-told19 .given .1))
 returns-20 : tie.Need-returns-20
 returns-20 c = ap reasonNumber (sym (c .enum-told20 .given .1))
 
+returns-21 : tie.Need-returns-21
+returns-21 c = ap reasonNumber (sym (c .enum-told21 .given .1))
+
+returns-22 : tie.Need-returns-22
+returns-22 c = ap reasonNumber (sym (c .enum-told22 .given .1))
+
+returns-23 : tie.Need-returns-23
+returns-23 c = ap reasonNumber (sym (c .enum-told23 .given .1))
+
+returns-24 : tie.Need-returns-24
+returns-24 c = ap reasonNumber (sym (c .enum-told24 .given .1))
+
+returns-25 : tie.Need-returns-25
+returns-25 c = ap reasonNumber (sym (c .enum-told25 .given .1))
+
+returns-26 : tie.Need-returns-26
+returns-26 c = ap reasonNumber (sym (c .enum-told26 .given .1))
+
+returns-27 : tie.Need-returns-27
+returns-27 c = ap reasonNumber (sym (c .enum-told27 .given .1))
+
+returns-28 : tie.Need-returns-28
+returns-28 c = ap reasonNumber (sym (c .enum-told28 .given .1))
+
+returns-29 : tie.Need-returns-29
+returns-29 c = ap reasonNumber (sym (c .enum-told29 .given .1))
+
 pub reason-number-spec : {M : Type 1} → statement M
 reason-number-spec =
     tie.close
@@ -149,6 +203,15 @@ reason-number-spec =
     enum-told-18
     enum-told-19
     enum-told-20
+    enum-told-21
+    enum-told-22
+    enum-told-23
+    enum-told-24
+    enum-told-25
+    enum-told-26
+    enum-told-27
+    enum-told-28
+    enum-told-29
     returns
     returns-2
     returns-3
@@ -168,4 +231,13 @@ reason-number-spec =
     returns-17
     returns-18
     returns-19
-    returns-20)
+    returns-20
+    returns-21
+    returns-22
+    returns-23
+    returns-24
+    returns-25
+    returns-26
+    returns-27
+    returns-28
+    returns-29)
