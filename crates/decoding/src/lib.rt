@@ -11,13 +11,6 @@ ghost use Rattle.matrix.specs.Place.{pairCount, fromRows};
 ghost use Rattle.tree_theory.specs.Limits.{maxEdges};
 ghost use Rattle.endian.specs.Bytes.{number, twos};
 
-// Zeros, by a function of their own: proofs then carry a name in place of every entry.
-pub fn no_distances() -> [u16; Matrix::MAX_PAIRS]
-    ensures { λ r. ⌜ r ≡ table maxPairs (λ _. 0) ⌝ }
-{
-    [0; Matrix::MAX_PAIRS]
-}
-
 // Reads the distances of strain j with those before it from the rows that start at `at`. They go behind the `first` ones that
 // are held already, those between the strains before j.
 fn column(
@@ -47,7 +40,7 @@ pub fn distances(s: &[u8], at: usize, n: usize, count: usize) -> [u16; Matrix::M
     requires { ⌜ (n ≤ maxStrains) × (count ≡ pairCount n) × (at + 2 * count ≤ length (now s)) ⌝ }
     ensures { λ r. ⌜ r ≡ padded 0 maxPairs count (fromRows n (λ k. number 2 (now (s .entry)) (at + 2 * k))) ⌝ }
 {
-    let mut held = no_distances();
+    let mut held = matrix::no_distances();
     let mut j = 1;
     let mut first = 0;
     while first < count {
@@ -63,7 +56,7 @@ pub fn numerators(s: &[u8], at: usize, count: usize) -> [i64; Tree::MAX_EDGES]
     requires { ⌜ (count ≤ maxEdges) × (at + 8 * count ≤ length (now s)) ⌝ }
     ensures { λ r. ⌜ r ≡ padded (pos 0) maxEdges count (λ k. twos (number 8 (now (s .entry)) (at + 8 * k))) ⌝ }
 {
-    let mut held = lengths::no_lengths();
+    let mut held = tree::edge_zeros();
     let mut k = 0;
     while k < count {
         let x = endian::i64_at(s, at + 8 * k);

@@ -16,10 +16,6 @@ use Rattle.verdict.specs.declared.Verdict.the-variants.{Accepted, Refused}
 use Rattle.verdict.specs.declared.Verdict.{Verdict}
 use Rattle.verdict.proofs.Answers.{orElse-pass, orElse-assoc, refused-row, accepted-row, not-pass, test-pass, or-none}
 use Rattle.matrix.specs.Place.{someMissing}
-use Rattle.matrix.specs.Proper as matrix
-use Rattle.matrix.specs.declared.Survey.{Survey}
-use Rattle.matrix.specs.Surveys.{Surveyed}
-use Rattle.matrix.proofs.Checked.{proper→}
 use Rattle.fit_theory.specs.Stands.{Shaped}
 use Rattle.fit_theory.specs.Tests.{bufferOut, shapeTests}
 use Rattle.fit_theory.proofs.Exactly.{→shaped}
@@ -51,9 +47,9 @@ module _ (N : ℕ) (ds ps : List ℕ) (v : Verdict) (asked : answerOf v ≡ degr
   pub degrees-refused : (k : Refusal) → v ≡ Refused k → refusalOf k ≡ directOnly N ds ps
   degrees-refused k q = refused-row k v (degreeTests N ps) (test 26 (someMissing ds)) q asked
 
-  -- what a survey of the matrix tells behind them
-  pub missing-asked : v ≡ Accepted → matrix.Proper N ds → (r : Survey) → Surveyed N ds r → test 26 (r .missing) ≡ directOnly N ds ps
-  missing-asked q m r s = ap (λ (b : Bool). test 26 b) (s .some-missing (proper→ N ds m)) ∙ accepted-row v (degreeTests N ps) (test 26 (someMissing ds)) q asked
+  -- what a missing pair tells behind them
+  pub missing-asked : v ≡ Accepted → (gone : Bool) → gone ≡ someMissing ds → test 26 gone ≡ directOnly N ds ps
+  missing-asked q gone e = ap (λ (b : Bool). test 26 b) e ∙ accepted-row v (degreeTests N ps) (test 26 (someMissing ds)) q asked
 
 -- ---- the tests in order, where v answers those of the matrix with the tree
 module _ (N : ℕ) (ds ps : List ℕ) (a b c : ℕ) (v : Verdict) (asked : answerOf v ≡ shapeTests N ds ps) where

@@ -83,7 +83,7 @@ pub fn check_resolved(n: u32, distances: &[u16], parents: &[u8]) -> Verdict
     if let Verdict::Refused(refusal) = degrees {
         return Verdict::Refused(refusal);
     }
-    if matrix::survey_matrix(n, distances).missing {
+    if matrix::some_missing(distances) {
         return Verdict::Refused(Refusal {
             reason: Reason::Unmeasured,
             place: Place::Nowhere,

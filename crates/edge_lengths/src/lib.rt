@@ -91,7 +91,7 @@ pub fn fill(
     requires { ⌜ (length (now numerators) ≡ length (now parents)) × (length (now denominators) ≡ length (now parents)) ⌝ }
     ensures { λ r. ⌜ Lowered (length (now (parents .entry))) (lengthBy n (length (now (parents .entry))) (parentOf (now (parents .entry))) (entryOf (now (sums .entry)))) (now (numerators .exit)) (now (denominators .exit)) r ⌝ }
 {
-    let mut rounded = lengths::no_lengths();
+    let mut rounded = tree::edge_zeros();
     let mut v = 0;
     while v < parents.len() {
         let ratio = edge_length(n, parents, masks, children, sums, v);

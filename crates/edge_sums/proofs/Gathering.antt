@@ -264,7 +264,7 @@ module _ {N K D : ℕ} {ds ps cs : List ℕ} {ns : List ℤ} (w : Ready N K D ds
                 ≡ pairs N (λ p. (stands par v v (p .0) *ℤ stands par v m (p .1) +ℤ stands par v m (p .0) *ℤ stands par v v (p .1)) *ℤ share K D ds ps ns u p)
             at-last = unfold below in pairs-cong N (λ p a _. ap (λ y. (stands par v v (p .0) *ℤ stands par v m (p .1) +ℤ stands par v m (p .0) *ℤ stands par v v (p .1)) *ℤ (ind (parts par u (p .0) (p .1)) *ℤ y)) (rest-remainder (p .0) (p .1) a))
 
-        pub gather-turn : {own′ : List ℤ} → Met N D ds ways′ here there m own own′
+        pub gather-turn : {own′ : List ℤ} → Met D ds ways′ here there m own own′
             → Gathered N K D ds ps ns (v + 1) own′ ways′ (set come m (bitOr there here))
         gather-turn a = rw add-one (record {
           here = edge;

@@ -14,13 +14,6 @@ ghost use Rattle.meeting.specs.Shares.{under, mass};
 ghost use Rattle.edge_sums.specs.Sums.{share, HandedUp, EdgeSums};
 ghost use Rattle.edge_sums.specs.Rooted.{Rooted};
 
-// Zeros, by a function of its own: proofs then carry a name in place of every entry.
-fn no_sums() -> [i64; Tree::MAX_EDGES]
-    ensures { λ r. ⌜ r ≡ table maxEdges (λ _. pos 0) ⌝ }
-{
-    [0; Tree::MAX_EDGES]
-}
-
 // One pass from the leaves up. At its turn an edge carries the strains below it to its parent, where
 // they meet those that came before: every pair once, where its path turns. Then the shares below an
 // edge come to the remainders of the pairs that it parts.
@@ -66,7 +59,7 @@ fn handed_up(
     requires { ⌜ (length (now own) ≡ maxVertices) × (mass maxVertices (now own) < 2 ^ 63) ⌝ }
     ensures { λ r. ⌜ HandedUp edges (now (parents .entry)) (now (own .entry)) r ⌝ }
 {
-    let mut sums = no_sums();
+    let mut sums = tree::edge_zeros();
     let mut v = 0;
     while v < edges {
         let whole = own[v];

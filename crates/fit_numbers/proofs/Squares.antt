@@ -17,7 +17,7 @@ use Rattle.exact.proofs.Sweep.{sweep-step, sweep-nn, sweep-le, term-le}
 use Rattle.matrix.specs.Limits.{maxStrains, maxPairs}
 use Rattle.tree_theory.specs.Limits.{maxEdges}
 use Rattle.pairs.specs.declared.Pair.{Pair}
-use Rattle.pairs.specs.Next.{Follows}
+use Rattle.pairs.proofs.Following.{Follows}
 use Rattle.fit_theory.proofs.Ranges.{hops-sweep}
 use Rattle.exact.specs.Fits.{Fits63}
 use Rattle.pairs.proofs.Turns.{PairAt}

@@ -18,7 +18,7 @@ use Rattle.matrix.specs.Place.{distance, measured, place}
 use Rattle.matrix.proofs.Looking.{known-of}
 use Rattle.fit_theory.specs.Quantities.{partsIn}
 use Rattle.pairs.specs.declared.Pair.{Pair}
-use Rattle.pairs.specs.Next.{Follows}
+use Rattle.pairs.proofs.Following.{Follows}
 use Rattle.pairs.specs.Ready.{Ready, InRange, remainderAt}
 use Rattle.fit_theory.proofs.Ranges.{product-range}
 use Rattle.pairs.proofs.Bounded.{in-bounds}

@@ -38,7 +38,7 @@ pub fn rounded(edges: usize, d: u32, numerators: &[i64]) -> [i64; Tree::MAX_EDGE
     requires { ⌜ InRange edges (now numerators) ⌝ }
     ensures { λ r. ⌜ r ≡ table maxEdges (λ v. cond (ltb v edges) (nearest d (entryOf (now (numerators .entry)) v)) (pos 0)) ⌝ }
 {
-    let mut lengths = lengths::no_lengths();
+    let mut lengths = tree::edge_zeros();
     let mut v = 0;
     while v < edges {
         lengths[v] = arithmetic::thousandths(numerators[v], d);

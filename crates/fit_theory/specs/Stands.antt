@@ -65,10 +65,14 @@ pub record Least (rule : Rule) (N : ℕ) (ds ps : List ℕ) (D : ℕ) (ns : List
   pub f-low : pos 0 ≤ᶻ fOf N ds ps D ns
   pub f-high : fOf N ds ps D ns ≤ᶻ pos 5040000000000000000
 
+-- D'·n: a numerator as it is compared with one over D'.
+abbrev pub scaled : ℕ → List ℤ → ℕ → ℤ
+scaled D′ ns v = pos D′ *ℤ entryOf ns v
+
 -- One fit only, where every pair is measured. F is the fit's, X the sum of squares of the table x over Q.
 pub record OneFit (rule : Rule) (N : ℕ) (ds ps : List ℕ) (D : ℕ) (ns : List ℤ) : Type 0 where
   -- on one matrix and one tree, two accepted proposals (D, n) and (D', n') have D'·n = D·n' at every edge
-  pub agree : (D′ : ℕ) (ns′ : List ℤ) → Stands rule N ds ps D′ ns′ → (v : ℕ) → v < length ps → pos D′ *ℤ entryOf ns v ≡ pos D *ℤ entryOf ns′ v
+  pub agree : (D′ : ℕ) (ns′ : List ℤ) → Stands rule N ds ps D′ ns′ → (v : ℕ) → v < length ps → scaled D′ ns v ≡ scaled D ns′ v
   -- every table x over Q that is compared with and differs from the fit as fractions at some edge has a strictly larger sum of squares: Q²·D·F is less than D²·X
   pub strict : (Q : ℤ) (x : ℕ → ℤ) → Against rule (length ps) Q x → (v : ℕ) → v < length ps → (Q *ℤ entryOf ns v ≡ pos D *ℤ x v → ⊥)
       → Q *ℤ Q *ℤ pos D *ℤ fOf N ds ps D ns <ᶻ pos D *ℤ pos D *ℤ sumX (pairs N) (length ps) (partsIn ds ps) (distance ds) Q x

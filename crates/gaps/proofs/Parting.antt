@@ -25,7 +25,7 @@ use Rattle.matrix.proofs.Places.{place-bound, count-more}
 use Rattle.tree_theory.specs.Limits.{maxEdges, maxVertices}
 use Rattle.tree_theory.specs.Chain.{parentOf, below, parts}
 use Rattle.tree_theory.specs.Cluster.{mask, cluster}
-use Rattle.tree_theory.proofs.Masks.{mask-zero, mask-suc, digit, mask-top, mask-lt, mask-bit}
+use Rattle.tree_theory.proofs.Masks.{mask-zero, mask-suc, digit, mask-top, mask-lt, mask-and, mask-bit}
 use Rattle.fit_theory.specs.Quantities.{partsIn}
 use Rattle.fit_theory.specs.Stands.{Shaped}
 use Rattle.fit_theory.specs.Tests.{unseen}
@@ -49,18 +49,6 @@ module _ (ds : List ℕ) (j i got r k : ℕ) (e : got ≡ mask i (λ h. measured
   column-fits h = let l : i + 1 ≤ 64 = omega arith in omega (arith, column-turn, mask-lt (i + 1) (λ h. measured ds (h, j)), pow-mono l)
 
 -- ---- what two masks have in common
-and-digits : (x y : Bool) → bitAnd (digit x) (digit y) ≡ digit (x && y)
-and-digits true true = refl
-and-digits true false = refl
-and-digits false true = refl
-and-digits false false = refl
-
-pub mask-and : (n : ℕ) (a b : ℕ → Bool) → bitAnd (mask n a) (mask n b) ≡ mask n (λ i. a i && b i)
-mask-and zero a b = ap₂ bitAnd (mask-zero a) (mask-zero b) ∙ sym (mask-zero _)
-mask-and (suc n) a b =
-    ap₂ bitAnd (mask-top n a) (mask-top n b) ∙ and-block n (digit (a n)) (digit (b n)) (mask n a) (mask n b) (mask-lt n a) (mask-lt n b)
-    ∙ ap₂ (λ x y. x * 2 ^ n + y) (and-digits (a n) (b n)) (mask-and n a b) ∙ sym (mask-top n (λ i. a i && b i))
-
 -- a narrow one and a wide one: digits past the narrow one do not show
 pub and-column : (j N : ℕ) (m b : ℕ → Bool) → j ≤ N → bitAnd (mask j m) (mask N b) ≡ mask j (λ i. m i && b i)
 and-column j zero m b h = let e : j ≡ 0 = omega arith in rw e (mask-and 0 m b)

@@ -43,12 +43,12 @@ pub fn judge_proposal(
     ensures { λ r. ⌜ answerOf r ≡ proposalTests rule n (now (distances .entry)) (now (parents .entry)) d (now (numerators .entry)) ⌝ }
 {
     let of_lengths = lengths::check_lengths(parents.len(), d, numerators);
-    if let Verdict::Refused(reason) = of_lengths {
-        return Verdict::Refused(reason);
+    if let Verdict::Refused(refusal) = of_lengths {
+        return Verdict::Refused(refusal);
     }
     let of_signs = lengths::check_signs(rule, numerators);
-    if let Verdict::Refused(reason) = of_signs {
-        return Verdict::Refused(reason);
+    if let Verdict::Refused(refusal) = of_signs {
+        return Verdict::Refused(refusal);
     }
     check_sums(rule, n as usize, distances, parents, d, numerators)
 }
@@ -65,8 +65,8 @@ pub fn judge(
     ensures { λ r. ⌜ JudgeAnswer rule n (now (distances .entry)) (now (parents .entry)) d (now (numerators .entry)) r ⌝ }
 {
     let posted = posting::check_posting(n, distances, parents);
-    if let Verdict::Refused(reason) = posted {
-        return Verdict::Refused(reason);
+    if let Verdict::Refused(refusal) = posted {
+        return Verdict::Refused(refusal);
     }
     judge_proposal(rule, n, distances, parents, d, numerators)
 }

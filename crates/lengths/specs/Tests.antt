@@ -12,6 +12,8 @@ use Rattle.verdict.specs.declared.Place.the-variants.{Edge}
 use Rattle.verdict.specs.declared.Rule.{Rule}
 use Rattle.verdict.specs.declared.Rule.the-variants.{Plain, Drawable}
 use Rattle.tree_theory.specs.Limits.{maxEdges}
+use Rattle.lengths.specs.declared.Ask.{Ask}
+use Rattle.lengths.specs.declared.Ask.the-variants.{InRange, NotNegative}
 use Rattle.lengths.specs.Limits.{maxDenominator, maxNumerator}
 
 -- 11: K, the count of numerators, not V - 1. No allowed tree has more than 125 edges, so more are refused here too.
@@ -22,13 +24,18 @@ edgesOut edges ns = not (eqb (length ns) edges) || ltb maxEdges edges
 abbrev pub denominatorOut : ℕ → Bool
 denominatorOut D = ltb D 1 || ltb maxDenominator D
 
+-- a numerator at fault: beyond its range, or negative where none may be
+abbrev pub faultBy : Ask → ℤ → Bool
+faultBy InRange n = ltb maxNumerator (natAbs n)
+faultBy NotNegative n = ltZ n (pos 0)
+
 -- 13: a numerator beyond its range
 abbrev pub numeratorOut : List ℤ → ℕ → Bool
-numeratorOut ns v = ltb maxNumerator (natAbs (getD ns v (pos 0)))
+numeratorOut ns v = faultBy InRange (getD ns v (pos 0))
 
 -- 22: a negative numerator
 abbrev pub isNegative : List ℤ → ℕ → Bool
-isNegative ns v = ltZ (getD ns v (pos 0)) (pos 0)
+isNegative ns v = faultBy NotNegative (getD ns v (pos 0))
 
 -- what the signs of the numerators are asked
 abbrev pub signTests : Rule → List ℤ → Answer

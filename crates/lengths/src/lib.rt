@@ -14,7 +14,7 @@ ghost use Rattle.verdict.specs.Answer.{answerOf};
 ghost use Rattle.verdict.specs.Table.{first};
 ghost use Rattle.tree_theory.specs.Limits.{maxEdges};
 ghost use Rattle.lengths.specs.Limits.{maxDenominator, maxNumerator};
-ghost use Rattle.lengths.specs.Tests.{numeratorOut, isNegative, lengthsTests, signTests};
+ghost use Rattle.lengths.specs.Tests.{faultBy, lengthsTests, signTests};
 ghost use Rattle.lengths.specs.Kept.{LengthsAnswer};
 
 // The length of edge v is numerators[v] / denominator; behind the edges stand zeros.
@@ -48,12 +48,12 @@ impl Lengths {
                     numerators: copied(numerators),
                 },
             },
-            Verdict::Refused(reason) => Proposed {
-                verdict: Verdict::Refused(reason),
+            Verdict::Refused(refusal) => Proposed {
+                verdict: Verdict::Refused(refusal),
                 lengths: Lengths {
                     denominator: 0,
                     edges: 0,
-                    numerators: no_lengths(),
+                    numerators: tree::edge_zeros(),
                 },
             },
         }
@@ -75,13 +75,29 @@ pub fn stated_limits() -> Limits
     }
 }
 
-// The first edge whose numerator is beyond its range; the count of numerators where none is.
-fn first_numerator_out(numerators: &[i64]) -> usize
-    ensures { λ r. ⌜ r ≡ first (length (now (numerators .entry))) (numeratorOut (now (numerators .entry))) ⌝ }
+// What a pass over the numerators asks: that each is in its range, or that none is negative.
+enum Ask {
+    InRange,
+    NotNegative,
+}
+
+// Whether a numerator is at fault.
+fn at_fault(ask: Ask, numerator: i64) -> bool
+    ensures { λ r. ⌜ r ≡ faultBy ask numerator ⌝ }
+{
+    match ask {
+        Ask::InRange => arithmetic::magnitude(numerator) > Lengths::MAX_NUMERATOR,
+        Ask::NotNegative => numerator < 0,
+    }
+}
+
+// The first edge that a pass finds at fault; the count of numerators where it finds none.
+fn first_at_fault(ask: Ask, numerators: &[i64]) -> usize
+    ensures { λ r. ⌜ r ≡ first (length (now (numerators .entry))) (λ v. faultBy ask (getD (now (numerators .entry)) v (pos 0))) ⌝ }
 {
     let mut v = 0;
     while v < numerators.len() {
-        if arithmetic::magnitude(numerators[v]) > Lengths::MAX_NUMERATOR {
+        if at_fault(ask, numerators[v]) {
             return v;
         }
         v += 1;
@@ -117,7 +133,7 @@ pub fn check_lengths(edges: usize, d: u32, numerators: &[i64]) -> Verdict
             place: Place::Nowhere,
         });
     }
-    let v = first_numerator_out(numerators);
+    let v = first_at_fault(Ask::InRange, numerators);
     if v < numerators.len() {
         return Verdict::Refused(Refusal {
             reason: Reason::Numerator,
@@ -127,20 +143,6 @@ pub fn check_lengths(edges: usize, d: u32, numerators: &[i64]) -> Verdict
     Verdict::Accepted
 }
 
-// The first edge whose numerator is negative; the count of numerators where none is.
-fn first_negative(numerators: &[i64]) -> usize
-    ensures { λ r. ⌜ r ≡ first (length (now (numerators .entry))) (isNegative (now (numerators .entry))) ⌝ }
-{
-    let mut v = 0;
-    while v < numerators.len() {
-        if numerators[v] < 0 {
-            return v;
-        }
-        v += 1;
-    }
-    v
-}
-
 // 22: where no length may be negative, one is.
 pub fn check_signs(rule: Rule, numerators: &[i64]) -> Verdict
     ensures { λ r. ⌜ answerOf r ≡ signTests rule (now (numerators .entry)) ⌝ }
@@ -148,7 +150,7 @@ pub fn check_signs(rule: Rule, numerators: &[i64]) -> Verdict
     match rule {
         Rule::Plain => Verdict::Accepted,
         Rule::Drawable => {
-            let lowest = first_negative(numerators);
+            let lowest = first_at_fault(Ask::NotNegative, numerators);
             if lowest < numerators.len() {
                 return Verdict::Refused(Refusal {
                     reason: Reason::Negative,
@@ -160,19 +162,12 @@ pub fn check_signs(rule: Rule, numerators: &[i64]) -> Verdict
     }
 }
 
-// A table of no lengths: zeros, by a function of its own, so that proofs carry a name in place of every entry.
-pub fn no_lengths() -> [i64; Tree::MAX_EDGES]
-    ensures { λ r. ⌜ r ≡ table maxEdges (λ _. pos 0) ⌝ }
-{
-    [0; Tree::MAX_EDGES]
-}
-
 // The numerators, then zeros.
 fn copied(numerators: &[i64]) -> [i64; Tree::MAX_EDGES]
     requires { ⌜ length (now numerators) ≤ maxEdges ⌝ }
     ensures { λ r. ⌜ r ≡ table maxEdges (λ v. getD (now (numerators .entry)) v (pos 0)) ⌝ }
 {
-    let mut kept = no_lengths();
+    let mut kept = tree::edge_zeros();
     let mut v = 0;
     while v < numerators.len() {
         kept[v] = numerators[v];

@@ -11,7 +11,7 @@ ghost use lib.ListN.{length, getD};
 ghost use Rattle.exact.specs.Table.{table};
 ghost use Rattle.verdict.specs.Answer.{fault, answerOf, reasonNumber};
 ghost use Rattle.matrix.specs.Limits.{minStrains, maxStrains, maxDistance, missing, maxPairs};
-ghost use Rattle.matrix.specs.Place.{pairCount, place, pairPlace, rowPlace};
+ghost use Rattle.matrix.specs.Place.{pairCount, place, pairPlace, rowPlace, someMissing};
 ghost use Rattle.matrix.specs.Tests.{matrixTests};
 ghost use Rattle.matrix.specs.Kept.{MatrixAnswer};
 ghost use Rattle.matrix.specs.Surveys.{Looked, Surveyed};
@@ -51,11 +51,11 @@ impl Matrix {
                     distances: copied(distances),
                 },
             },
-            Verdict::Refused(reason) => Measured {
-                verdict: Verdict::Refused(reason),
+            Verdict::Refused(refusal) => Measured {
+                verdict: Verdict::Refused(refusal),
                 matrix: Matrix {
                     n: 0,
-                    distances: zeros(),
+                    distances: no_distances(),
                 },
             },
         }
@@ -202,6 +202,20 @@ pub fn survey_matrix(n: u32, distances: &[u16]) -> Survey
     }
 }
 
+// Whether some pair is missing.
+pub fn some_missing(distances: &[u16]) -> bool
+    ensures { λ r. ⌜ r ≡ someMissing (now (distances .entry)) ⌝ }
+{
+    let mut k = 0;
+    while k < distances.len() {
+        if distances[k] == Matrix::MISSING {
+            return true;
+        }
+        k += 1;
+    }
+    false
+}
+
 // The answer alone.
 pub fn check_matrix(n: u32, distances: &[u16]) -> Verdict
     ensures { λ r. ⌜ answerOf r ≡ matrixTests n (now (distances .entry)) ⌝ }
@@ -209,7 +223,8 @@ pub fn check_matrix(n: u32, distances: &[u16]) -> Verdict
     survey_matrix(n, distances).verdict
 }
 
-fn zeros() -> [u16; Matrix::MAX_PAIRS]
+// A matrix of no distances: zeros, by a function of its own, so that proofs carry a name in place of every entry.
+pub fn no_distances() -> [u16; Matrix::MAX_PAIRS]
     ensures { λ r. ⌜ r ≡ table maxPairs (λ _. 0) ⌝ }
 {
     [0; Matrix::MAX_PAIRS]
@@ -220,7 +235,7 @@ fn copied(distances: &[u16]) -> [u16; Matrix::MAX_PAIRS]
     requires { ⌜ length (now distances) ≤ maxPairs ⌝ }
     ensures { λ r. ⌜ r ≡ table maxPairs (λ k. getD (now (distances .entry)) k 0) ⌝ }
 {
-    let mut kept = zeros();
+    let mut kept = no_distances();
     let mut k = 0;
     while k < distances.len() {
         kept[k] = distances[k];

@@ -37,7 +37,7 @@ pub fn mean_over(n: u32, distances: &[u16], edges: usize, d: u32) -> Mean
     requires { ⌜ Proper n (now distances) ⌝ }
     ensures { λ r. ⌜ r ≡ meanOf n (now (distances .entry)) edges d ⌝ }
 {
-    if matrix::survey_matrix(n, distances).missing {
+    if matrix::some_missing(distances) {
         return Mean::None;
     }
     let pairs = matrix::pair_count(n) as usize;

@@ -35,7 +35,7 @@ module _ {N D : ℕ} {ds : List ℕ} {ways : List ℤ} {here there m : ℕ} {old
   pub join-start : length old ≡ maxVertices → Joining N D ds ways here there m old here old
   join-start e = record { size = e; inside = λ j h. h; more = omega arith; entries = λ par v. refl }
 
-  pub join-end : {left : ℕ} {now : List ℤ} → left ≡ 0 → Joining N D ds ways here there m old left now → Met N D ds ways here there m old now
+  pub join-end : {left : ℕ} {now : List ℤ} → left ≡ 0 → Joining N D ds ways here there m old left now → Met D ds ways here there m old now
   join-end {left} {now} e t = record {
     size = t .size;
     more = omega (arith, t .more);
@@ -57,7 +57,7 @@ module _ {N D : ℕ} {ds : List ℕ} {ways : List ℤ} {here there m : ℕ} {old
     pub join-room : mass maxVertices now + pairMass * ones there < 2 ^ 63
     join-room = omega (arith, t .more, product, room)
 
-    module _ {x : ℤ} {mid : List ℤ} (p : Rowed N D ds ways there j x now mid) where
+    module _ {x : ℤ} {mid : List ℤ} (p : Rowed D ds ways there j x now mid) where
       -- the row's sum as it is passed
       abbrev y : ℤ
       y = toZ w64 (ofZ w64 x)

@@ -40,7 +40,7 @@ module _ {N D : ℕ} {ds : List ℕ} {ways : List ℤ} {there j : ℕ} {old : Li
     entries = λ par v. refl;
   }
 
-  pub row-end : {left : ℕ} {whole : ℤ} {now : List ℤ} → left ≡ 0 → Rowing N D ds ways there j old left whole now → Rowed N D ds ways there j whole old now
+  pub row-end : {left : ℕ} {whole : ℤ} {now : List ℤ} → left ≡ 0 → Rowing N D ds ways there j old left whole now → Rowed D ds ways there j whole old now
   row-end {left} {whole} {now} e t = record {
     size = t .size;
     whole = none whole (λ i. remainderByWays D ds ways i j) ∙ t .total;

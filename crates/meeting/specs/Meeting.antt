@@ -70,7 +70,7 @@ pub record Apart (N D : ℕ) (ds : List ℕ) (ways : List ℤ) (there j : ℕ) :
   pub near : (i : ℕ) → bitAt there i ≡ true → natAbs (remainderByWays D ds ways i j) ≤ largestRemainder
 
 -- the remainder of strain j with each strain of the mask is put at that strain, and together they come to r
-pub record Rowed (N D : ℕ) (ds : List ℕ) (ways : List ℤ) (there j : ℕ) (r : ℤ) (old new : List ℤ) : Type 0 where
+pub record Rowed (D : ℕ) (ds : List ℕ) (ways : List ℤ) (there j : ℕ) (r : ℤ) (old new : List ℤ) : Type 0 where
   pub size : length new ≡ maxVertices
   pub whole : r ≡ over there (λ i. remainderByWays D ds ways i j)
   pub more : mass maxVertices new + 3 * natAbs r ≤ mass maxVertices old + pairMass * ones there
@@ -78,7 +78,7 @@ pub record Rowed (N D : ℕ) (ds : List ℕ) (ways : List ℤ) (there j : ℕ) (
       → under par new v ≡ under par old v +ℤ over there (λ i. ind (below par i v) *ℤ remainderByWays D ds ways i j)
 
 -- every pair of a strain of one mask and a strain of the other: its remainder is put at both, and taken off twice at m
-pub record Met (N D : ℕ) (ds : List ℕ) (ways : List ℤ) (here there m : ℕ) (old new : List ℤ) : Type 0 where
+pub record Met (D : ℕ) (ds : List ℕ) (ways : List ℤ) (here there m : ℕ) (old new : List ℤ) : Type 0 where
   pub size : length new ≡ maxVertices
   pub more : mass maxVertices new ≤ mass maxVertices old + pairMass * (ones here * ones there)
   pub entries : (par : ℕ → ℕ) (v : ℕ) → under par new v ≡ under par old v +ℤ over here (λ j. over there (λ i.

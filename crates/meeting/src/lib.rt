@@ -121,7 +121,7 @@ fn row(
     requires { ⌜ Carrying n d (now distances) (now ways) ⌝ }
     requires { ⌜ Apart n d (now distances) (now ways) there j ⌝ }
     requires { ⌜ (length (now own) ≡ maxVertices) × (mass maxVertices (now own) + pairMass * ones there < 2 ^ 63) ⌝ }
-    ensures { λ r. ⌜ Rowed n d (now (distances .entry)) (now (ways .entry)) there j r (now (own .entry)) (now (own .exit)) ⌝ }
+    ensures { λ r. ⌜ Rowed d (now (distances .entry)) (now (ways .entry)) there j r (now (own .entry)) (now (own .exit)) ⌝ }
 {
     let mut whole = 0;
     let mut left = there;
@@ -153,7 +153,7 @@ pub fn meet(
     requires { ⌜ ((j : ℕ) → bitAt here j ≡ true → Apart n d (now distances) (now ways) there j) ⌝ }
     requires { ⌜ (length (now own) ≡ maxVertices) × (m < maxVertices) ⌝ }
     requires { ⌜ mass maxVertices (now own) + pairMass * (ones here * ones there) < 2 ^ 63 ⌝ }
-    ensures { λ _. ⌜ Met n d (now (distances .entry)) (now (ways .entry)) here there m (now (own .entry)) (now (own .exit)) ⌝ }
+    ensures { λ _. ⌜ Met d (now (distances .entry)) (now (ways .entry)) here there m (now (own .entry)) (now (own .exit)) ⌝ }
 {
     let mut left = here;
     while left != 0 {

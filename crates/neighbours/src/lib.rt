@@ -16,17 +16,11 @@ ghost use Rattle.neighbours.specs.Listed.{childRoom, Listed};
 // Room for three children of each vertex.
 pub const CHILD_ROOM: usize = 3 * Tree::MAX_VERTICES;
 
-// Zeros, by functions of their own: proofs then carry a name in place of every entry.
+// Zeros, by a function of their own: proofs then carry a name in place of every entry.
 fn no_children() -> [u8; CHILD_ROOM]
     ensures { λ r. ⌜ r ≡ table childRoom (λ _. 0) ⌝ }
 {
     [0; CHILD_ROOM]
-}
-
-fn no_counts() -> [u8; Tree::MAX_VERTICES]
-    ensures { λ r. ⌜ r ≡ table maxVertices (λ _. 0) ⌝ }
-{
-    [0; Tree::MAX_VERTICES]
 }
 
 // The children of each vertex in rising order: child k of w at 3w + k.
@@ -36,7 +30,7 @@ pub fn child_table(n: usize, parents: &[u8]) -> [u8; CHILD_ROOM]
     ensures { λ r. ⌜ Listed (length (now (parents .entry))) (parentOf (now (parents .entry))) r ⌝ }
 {
     let mut listed = no_children();
-    let mut counts = no_counts();
+    let mut counts = tree::no_counts();
     let mut v = 0;
     while v < parents.len() {
         let p = parents[v] as usize;

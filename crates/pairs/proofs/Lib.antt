@@ -1,5 +1,5 @@
 pub mod Remaining
 pub mod Lent
 pub mod Bounded
+pub mod Following
 pub mod Turns
-pub mod Settled

@@ -7,7 +7,7 @@ use lib.IntN.{ℤ, pos}
 use Rattle.exact.specs.Sum.{pairs, sweep}
 use Rattle.exact.proofs.Sweep.{sweep-start, sweep-column, sweep-end}
 use Rattle.pairs.specs.declared.Pair.{Pair}
-use Rattle.pairs.specs.Next.{Follows}
+use Rattle.pairs.proofs.Following.{Follows}
 
 -- where such a loop can stand: at a pair, or behind the last
 pub record PairAt (n i j : ℕ) : Type 0 where

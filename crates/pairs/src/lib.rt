@@ -4,7 +4,7 @@ use tree::Tree;
 ghost use mathlib.Core.Path.{_≡_};
 ghost use Prim.Native.Nat.{_<_};
 ghost use Rattle.matrix.specs.Limits.{maxStrains};
-ghost use Rattle.pairs.specs.Next.{Follows};
+ghost use Rattle.pairs.specs.Next.{nextPair};
 ghost use Rattle.pairs.specs.Ready.{Ready, remainderAt};
 
 // Two strains, the first below the second.
@@ -16,7 +16,7 @@ pub struct Pair {
 // The pair behind i j, column by column: 01, 02, 12, 03, 13, 23, ..
 pub fn next_pair(i: usize, j: usize) -> Pair
     requires { ⌜ (i < j) × (j < maxStrains) ⌝ }
-    ensures { λ r. ⌜ Follows i j r ⌝ }
+    ensures { λ r. ⌜ r ≡ nextPair i j ⌝ }
 {
     if i + 1 < j {
         Pair { i: i + 1, j }

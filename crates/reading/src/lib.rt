@@ -73,7 +73,7 @@ fn proposed_lengths(s: &[u8], count: usize, at: usize, edges: usize) -> Proposal
             verdict: Verdict::Accepted,
             denominator: 0,
             edges: 0,
-            numerators: lengths::no_lengths(),
+            numerators: tree::edge_zeros(),
         };
     }
     let body = at + Layout::HEAD;
@@ -85,7 +85,7 @@ fn proposed_lengths(s: &[u8], count: usize, at: usize, edges: usize) -> Proposal
             }),
             denominator: 0,
             edges: 0,
-            numerators: lengths::no_lengths(),
+            numerators: tree::edge_zeros(),
         };
     }
     Proposal {
@@ -104,12 +104,12 @@ fn refused(refusal: Refusal) -> Sheet
         verdict: Verdict::Refused(refusal),
         strains: 0,
         pairs: 0,
-        distances: decoding::no_distances(),
+        distances: matrix::no_distances(),
         parents: 0,
         end: 0,
         denominator: 0,
         edges: 0,
-        numerators: lengths::no_lengths(),
+        numerators: tree::edge_zeros(),
     }
 }
 

@@ -78,7 +78,7 @@ module _ (rule : Rule) (s : List ℕ) (r : Sheet) (a : SheetAnswer 3 s r) (e : r
       few = omega (arith, lengths .count, lengths .few)
 
       rounded : EdgeTable (length (parentsOf s)) (roundedOf (denominatorOf s) (numeratorsOf s)) (after ++ drop (r .edges) zeros)
-      rounded = front-kept (length (parentsOf s)) (roundedOf (denominatorOf s) (numeratorsOf s)) after (drop (r .edges) zeros) few (reported .rounded)
+      rounded = front-kept (pos 0) (length (parentsOf s)) (roundedOf (denominatorOf s) (numeratorsOf s)) after (drop (r .edges) zeros) few (reported .rounded)
           (λ k. getD-drop (r .edges) zeros k (pos 0) ∙ ap (λ (l : List ℤ). entryOf l (r .edges + k)) blank ∙ getD-table-const maxEdges (pos 0) (r .edges + k))
           (length-drop (r .edges) zeros ∙ ap₂ _-_ size (lengths .count))
 

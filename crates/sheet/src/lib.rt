@@ -49,8 +49,8 @@ fn unfitted(refusal: Refusal) -> SheetFit
 {
     SheetFit {
         report: reporting::silent(refusal),
-        numerators: lengths::no_lengths(),
-        rounded: lengths::no_lengths(),
+        numerators: tree::edge_zeros(),
+        rounded: tree::edge_zeros(),
     }
 }
 
@@ -69,7 +69,7 @@ pub fn sheet_report(rule: Rule, s: &[u8]) -> SheetFit
     let edges = sheet.edges;
     let distances = sheet.distances;
     let numerators = sheet.numerators;
-    let mut rounded = lengths::no_lengths();
+    let mut rounded = tree::edge_zeros();
     let report = reporting::report_proposal(
         rule,
         sheet.strains,

@@ -12,7 +12,7 @@ use Rattle.matrix.specs.Place.{pairCount, rowPlace}
 use Rattle.matrix.proofs.Places.{row-place-bound, row-place-one}
 use Rattle.exact.specs.Table.{entryOf}
 use Rattle.pairs.specs.declared.Pair.{Pair}
-use Rattle.pairs.specs.Next.{Before, Follows}
+use Rattle.pairs.proofs.Following.{Before, Follows}
 
 pub record Filling (N : ℕ) (f : ℕ × ℕ → ℤ) (i j : ℕ) (l : List ℤ) : Type 0 where
   pub rising : i < j

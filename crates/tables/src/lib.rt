@@ -31,7 +31,7 @@ pub fn split(
     requires { ⌜ Standing n (length (now parents)) (now parents) (now masks) ⌝ }
     ensures { λ r. ⌜ SplitTable n (now (distances .entry)) (now (parents .entry)) r ⌝ }
 {
-    let none = lengths::no_lengths();
+    let none = tree::edge_zeros();
     edge_sums::edge_sums(n, parents.len(), 1, distances, parents, masks, &none)
 }
 
@@ -52,8 +52,8 @@ pub fn split_sums(n: u32, distances: &[u16], parents: &[u8], sums: &mut [i64]) -
     ensures { λ r. ⌜ SplitAnswer n (now (distances .entry)) (now (parents .entry)) (now (sums .entry)) (now (sums .exit)) r ⌝ }
 {
     let posted = posting::check_posting(n, distances, parents);
-    if let Verdict::Refused(reason) = posted {
-        return Verdict::Refused(reason);
+    if let Verdict::Refused(refusal) = posted {
+        return Verdict::Refused(refusal);
     }
     if sums.len() != parents.len() {
         return Verdict::Refused(Refusal {
@@ -107,8 +107,8 @@ pub fn path_lengths(
     let of_tree = tree::check_tree(n, parents);
     let of_lengths = lengths::check_lengths(parents.len(), d, numerators);
     let found = verdict::or_else(of_tree, of_lengths);
-    if let Verdict::Refused(reason) = found {
-        return Verdict::Refused(reason);
+    if let Verdict::Refused(refusal) = found {
+        return Verdict::Refused(refusal);
     }
     if paths.len() as u64 != matrix::pair_count(n) {
         return Verdict::Refused(Refusal {

@@ -9,6 +9,7 @@ ghost use mathlib.Core.Path.{_≡_};
 ghost use mathlib.Core.Bool.{_||_};
 ghost use Prim.Native.Nat.{ℕ, _+_, _≤_, _<_};
 ghost use lib.Dec.{ltb};
+ghost use lib.IntN.{pos};
 ghost use lib.ListN.{length, getD};
 ghost use Rattle.exact.specs.Table.{table};
 ghost use Rattle.verdict.specs.Answer.{answerOf};
@@ -55,7 +56,7 @@ fn first_parent_out(n: usize, parents: &[u8]) -> usize
 }
 
 // Zeros, by functions of their own: proofs then carry a name in place of every entry.
-fn no_counts() -> [u8; Tree::MAX_VERTICES]
+pub fn no_counts() -> [u8; Tree::MAX_VERTICES]
     ensures { λ r. ⌜ r ≡ table maxVertices (λ _. 0) ⌝ }
 {
     [0; Tree::MAX_VERTICES]
@@ -63,6 +64,12 @@ fn no_counts() -> [u8; Tree::MAX_VERTICES]
 
 fn no_parents() -> [u8; Tree::MAX_EDGES]
     ensures { λ r. ⌜ r ≡ table maxEdges (λ _. 0) ⌝ }
+{
+    [0; Tree::MAX_EDGES]
+}
+
+pub fn edge_zeros() -> [i64; Tree::MAX_EDGES]
+    ensures { λ r. ⌜ r ≡ table maxEdges (λ _. pos 0) ⌝ }
 {
     [0; Tree::MAX_EDGES]
 }
@@ -202,8 +209,8 @@ impl Tree {
                     parents: copied(parents),
                 },
             },
-            Verdict::Refused(reason) => Planted {
-                verdict: Verdict::Refused(reason),
+            Verdict::Refused(refusal) => Planted {
+                verdict: Verdict::Refused(refusal),
                 tree: Tree {
                     n: 0,
                     edges: 0,

@@ -1,14 +1,14 @@
 -- Masks as numbers. The idea: `mask (suc n) b` is the digit `b n` at place n before the n digits of `mask n b`, so each law about n
 -- digits is an induction that splits off the highest.
 use mathlib.Core.Path.{_≡_, refl, sym, ap, ap₂, _∙_}
-use mathlib.Core.Bool.{Bool, true, false, _||_, cond, not}
+use mathlib.Core.Bool.{Bool, true, false, _||_, _&&_, cond, not}
 use Prim.Native.Nat.{ℕ, zero, suc, _+_, _-_, _*_, _/_, _%_, _^_, _<_, _≤_}
 use native.Mathlib.Decide.{ℕ-discrete, decLt}
 use native.Mathlib.Nat.{pow-suc, one-mul, zero-mul, zero-add, add-zero, add-comm, add-mul-div-right, mul-assoc, mul-add-mod-self-right, div-eq-of-lt}
 use native.Mathlib.Omega.{arith}
 use borrow.Author.Tests.{lt-ltb, le-ltb, eq-eqb, ne-eqb}
 use lib.Dec.{eqb, ltb}
-use lib.Bits.{bitOr, or-block}
+use lib.Bits.{bitAnd, bitOr, and-block, or-block}
 use lib.Count.{ones, ones-cat}
 use lib.Pow.{pow-pos, pow-add, high, shl-exact, pow-mono}
 use Rattle.exact.proofs.Decide.{by-cases}
@@ -49,6 +49,19 @@ mask-lt (suc n) b = omega (arith, mask-lt n b, mask-suc n b, pow-suc 2 n, at-mos
     at-most : (x : Bool) → cond x (2 ^ n) 0 ≤ 2 ^ n
     at-most true = omega arith
     at-most false = omega arith
+
+-- ---- what two masks have in common
+and-digits : (x y : Bool) → bitAnd (digit x) (digit y) ≡ digit (x && y)
+and-digits true true = refl
+and-digits true false = refl
+and-digits false true = refl
+and-digits false false = refl
+
+pub mask-and : (n : ℕ) (a b : ℕ → Bool) → bitAnd (mask n a) (mask n b) ≡ mask n (λ i. a i && b i)
+mask-and zero a b = ap₂ bitAnd (mask-zero a) (mask-zero b) ∙ sym (mask-zero _)
+mask-and (suc n) a b =
+    ap₂ bitAnd (mask-top n a) (mask-top n b) ∙ and-block n (digit (a n)) (digit (b n)) (mask n a) (mask n b) (mask-lt n a) (mask-lt n b)
+    ∙ ap₂ (λ x y. x * 2 ^ n + y) (and-digits (a n) (b n)) (mask-and n a b) ∙ sym (mask-top n (λ i. a i && b i))
 
 -- ---- reading a digit
 digit-at : (d : Bool) → eqb (digit d % 2) 1 ≡ d

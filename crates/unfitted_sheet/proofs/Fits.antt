@@ -28,23 +28,10 @@ use Rattle.reading.specs.Reads.{SheetAnswer}
 use Rattle.reading.proofs.Parts.{Parts, accepted, read-parts, of-parts, to-parts}
 use Rattle.reading.proofs.Whole.{two-asked}
 use Rattle.unfitted_sheet.specs.declared.UnfittedFit.{UnfittedFit}
-use Rattle.unfitted_sheet.specs.Fits.{unfittedTests, Denominators, Fitted, Unfitted, UnfittedAnswer}
+use Rattle.unfitted_sheet.specs.Fits.{unfittedTests, Fitted, Unfitted, UnfittedAnswer}
 
 pub refused-sheet : (s : List ℕ) (x : UnfittedFit) (q : Refusal) → x .fit .verdict ≡ Refused q → Unfitted x → refusalOf q ≡ unfittedTests s → UnfittedAnswer s x
 refused-sheet s x q e u g = record { answer = ap answerOf e ∙ g; fitted = λ z. absurd (not-pass q (g ∙ z)); unfitted = λ _. u }
-
--- K denominators with zeros behind them
-module _ (K : ℕ) (f : ℕ → ℕ) (front rest : List ℕ) (few : K ≤ maxEdges) (e : front ≡ table K f) (z : (k : ℕ) → getD rest k 0 ≡ 0) (size : length rest ≡ maxEdges - K) where
-  whole : length front ≡ K
-  whole = ap length e ∙ length-table K f
-
-  denominators-kept : Denominators K f (front ++ rest)
-  denominators-kept = record {
-    size = omega (arith, length-append front rest, whole);
-    entries = λ v l. List·getD-append front rest 0 v (omega (arith, whole)) ∙ ap (λ (x : List ℕ). getD x v 0) e ∙ getD-table K f 0 v l;
-    rest = λ v l. let at : length front + (v - K) ≡ v = omega (arith, whole) in
-        ap (λ (k : ℕ). getD (front ++ rest) k 0) (sym at) ∙ getD-append-add front rest (v - K) 0 ∙ z (v - K);
-  }
 
 -- a table of one value: its front has room for each edge, and what is behind the front has that value
 module _ {A : Type 0} (d : A) (zeros : List A) (blank : zeros ≡ table maxEdges (λ _. d)) (k : ℕ) where
@@ -104,7 +91,7 @@ module _ (s : List ℕ) (r : Sheet) (a : SheetAnswer 2 s r) (e : r .verdict ≡ 
 
         kept : (f : ℕ → ℤ) (front l : List ℤ) → front ≡ table (length (parentsOf s)) f → l ≡ table maxEdges (λ _. pos 0)
             → EdgeTable (length (parentsOf s)) f (front ++ drop (r .end - r .parents) l)
-        kept f front l h b = front-kept (length (parentsOf s)) f front (drop (r .end - r .parents) l) few h (rest-blank (pos 0) l b (r .end - r .parents)) (behind (pos 0) l b)
+        kept f front l h b = front-kept (pos 0) (length (parentsOf s)) f front (drop (r .end - r .parents) l) few h (rest-blank (pos 0) l b (r .end - r .parents)) (behind (pos 0) l b)
 
         pub fitted-sheet : UnfittedAnswer s (record {
           fit = x;
@@ -122,7 +109,7 @@ module _ (s : List ℕ) (r : Sheet) (a : SheetAnswer 2 s r) (e : r .verdict ≡ 
             few = few;
             resolves = record { tops = refl; bottoms = refl; rounded = refl; r = fit .r; h = fit .h; direct = fit .direct };
             tops = kept (topOf (strainsOf s) (distancesOf s) (parentsOf s)) ns blank (fit .tops) b;
-            bottoms = denominators-kept (length (parentsOf s)) (bottomOf (strainsOf s) (distancesOf s) (parentsOf s)) es (drop (r .end - r .parents) none) few (fit .bottoms) (rest-blank 0 none c (r .end - r .parents)) (behind 0 none c);
+            bottoms = front-kept 0 (length (parentsOf s)) (bottomOf (strainsOf s) (distancesOf s) (parentsOf s)) es (drop (r .end - r .parents) none) few (fit .bottoms) (rest-blank 0 none c (r .end - r .parents)) (behind 0 none c);
             rounded = kept (thousandthOf (strainsOf s) (distancesOf s) (parentsOf s)) ms blank′ (fit .rounded) d;
           };
           unfitted = λ n. absurd (n zero);

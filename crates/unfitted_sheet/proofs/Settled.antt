@@ -2,23 +2,16 @@
 use mathlib.Core.Path.{_≡_, sym, _∙_, ap, ap₂}
 use mathlib.Core.List.{List}
 use Prim.Native.Nat.{ℕ}
-use native.Mathlib.Decide.{ℕ-discrete, decLt}
+use native.Mathlib.Decide.{ℕ-discrete}
 use native.Mathlib.Omega.{arith}
 use lib.IntN.{ℤ}
-use lib.Seq.{ext-getD}
 use Rattle.verdict.specs.Answer.{pass}
 use Rattle.exact.proofs.Decide.{by-cases}
 use Rattle.verdict.specs.declared.Verdict.{Verdict}
 use Rattle.verdict.proofs.Answers.{passes, same-answer}
 use Rattle.tree_theory.proofs.EdgeTables.{one-table}
 use Rattle.unfitted_sheet.specs.declared.UnfittedFit.{UnfittedFit}
-use Rattle.unfitted_sheet.specs.Fits.{unfittedTests, Denominators, UnfittedAnswer}
-
-one-denominators : {K : ℕ} {f : ℕ → ℕ} {a b : List ℕ} → Denominators K f a → Denominators K f b → a ≡ b
-one-denominators {K} {f} {a} {b} s t = ext-getD 0 a b (s .size ∙ sym (t .size))
-    (λ v _. by-cases (decLt v K)
-    (λ l. s .entries v l ∙ sym (t .entries v l))
-    (λ l. s .rest v (omega arith) ∙ sym (t .rest v (omega arith))))
+use Rattle.unfitted_sheet.specs.Fits.{unfittedTests, UnfittedAnswer}
 
 -- what two fits have in common when only their verdicts are known to be
 record Same (x y : UnfittedFit) : Type 0 where
@@ -51,7 +44,7 @@ one-unfitted s x y p q = same-fit x y (same-answer (x .fit .verdict) (y .fit .ve
       strains = a .strains ∙ sym (b .strains);
       edges = a .edges ∙ sym (b .edges);
       tops = one-table (a .tops) (b .tops);
-      bottoms = one-denominators (a .bottoms) (b .bottoms);
+      bottoms = one-table (a .bottoms) (b .bottoms);
       rounded = one-table (a .rounded) (b .rounded);
     }
 

@@ -9,7 +9,7 @@ use Rattle.exact.specs.Table.{table}
 use Rattle.verdict.specs.Answer.{Answer, pass, answerOf, test, _orElse_}
 use Rattle.matrix.specs.Tests.{matrixTests}
 use Rattle.tree_theory.specs.Limits.{maxEdges}
-use Rattle.tree_theory.specs.EdgeTable.{EdgeTable}
+use Rattle.tree_theory.specs.EdgeTable.{EdgeTableOf, EdgeTable}
 use Rattle.fit_theory.specs.Tests.{shapeTests}
 use Rattle.direct_theory.specs.Tests.{directOnly}
 use Rattle.direct_theory.specs.Lengths.{topOf, bottomOf, thousandthOf}
@@ -29,12 +29,6 @@ unfittedTests s =
     orElse shapeTests (strainsOf s) (distancesOf s) (parentsOf s)
     orElse directOnly (strainsOf s) (distancesOf s) (parentsOf s)
 
--- a denominator for each of K edges, then zeros
-pub record Denominators (K : ℕ) (f : ℕ → ℕ) (r : List ℕ) : Type 0 where
-  pub size : length r ≡ maxEdges
-  pub entries : (v : ℕ) → v < K → getD r v 0 ≡ f v
-  pub rest : (v : ℕ) → K ≤ v → getD r v 0 ≡ 0
-
 -- an accepted sheet: its fit, and the three tables
 pub record Fitted (s : List ℕ) (r : UnfittedFit) : Type 0 where
   pub strains : r .strains ≡ strainsOf s
@@ -42,7 +36,7 @@ pub record Fitted (s : List ℕ) (r : UnfittedFit) : Type 0 where
   pub few : length (parentsOf s) ≤ maxEdges
   pub resolves : Resolves (strainsOf s) (distancesOf s) (parentsOf s) (table (length (parentsOf s)) (topOf (strainsOf s) (distancesOf s) (parentsOf s))) (table (length (parentsOf s)) (bottomOf (strainsOf s) (distancesOf s) (parentsOf s))) (table (length (parentsOf s)) (thousandthOf (strainsOf s) (distancesOf s) (parentsOf s))) (r .fit)
   pub tops : EdgeTable (length (parentsOf s)) (topOf (strainsOf s) (distancesOf s) (parentsOf s)) (r .tops)
-  pub bottoms : Denominators (length (parentsOf s)) (bottomOf (strainsOf s) (distancesOf s) (parentsOf s)) (r .bottoms)
+  pub bottoms : EdgeTableOf 0 (length (parentsOf s)) (bottomOf (strainsOf s) (distancesOf s) (parentsOf s)) (r .bottoms)
   pub rounded : EdgeTable (length (parentsOf s)) (thousandthOf (strainsOf s) (distancesOf s) (parentsOf s)) (r .rounded)
 
 -- a refused one: zeros

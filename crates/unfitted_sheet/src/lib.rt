@@ -39,9 +39,9 @@ fn refused(refusal: Refusal) -> UnfittedFit
         },
         strains: 0,
         edges: 0,
-        tops: lengths::no_lengths(),
+        tops: tree::edge_zeros(),
         bottoms: no_denominators(),
-        rounded: lengths::no_lengths(),
+        rounded: tree::edge_zeros(),
     }
 }
 
@@ -64,9 +64,9 @@ pub fn unfitted_fit(s: &[u8]) -> UnfittedFit
         return refused(refusal);
     }
     let edges = end - parents;
-    let mut tops = lengths::no_lengths();
+    let mut tops = tree::edge_zeros();
     let mut bottoms = no_denominators();
-    let mut rounded = lengths::no_lengths();
+    let mut rounded = tree::edge_zeros();
     let fit = direct_fit::resolve(
         strains,
         &distances[..pairs],

@@ -17,11 +17,11 @@ Inv-loop s at count held₀ k₀ held k = Decoding (pos 0) maxEdges count (λ i.
 abbrev μ-loop : tie.MeasureT-loop
 μ-loop s at count held₀ k₀ held k = count - k
 
-no-lengths-requires : tie.Need-no-lengths-requires Inv-loop μ-loop
-no-lengths-requires c κs = search needs
+edge-zeros-requires : tie.Need-edge-zeros-requires Inv-loop μ-loop
+edge-zeros-requires c κs = search needs
 
 loop-holds : tie.Need-loop-holds Inv-loop μ-loop
-loop-holds c = decode-start (pos 0) maxEdges _ _ _ (c .no-lengths .ensures)
+loop-holds c = decode-start (pos 0) maxEdges _ _ _ (c .edge-zeros .ensures)
 
 mul-i64-at : tie.Need-mul-i64-at Inv-loop μ-loop
 mul-i64-at c = search needs
@@ -56,7 +56,7 @@ numerators-spec =
     (tie.spec
     Inv-loop
     μ-loop
-    no-lengths-requires
+    edge-zeros-requires
     loop-holds
     mul-i64-at
     add-i64-at

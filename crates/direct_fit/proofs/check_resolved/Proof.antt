@@ -21,20 +21,20 @@ returns c = let d = c .before .before .before in
 enum-told : tie.Need-enum-told
 enum-told c = search needs
 
-survey-matrix-requires : tie.Need-survey-matrix-requires
-survey-matrix-requires c κs = search needs
+some-missing-requires : tie.Need-some-missing-requires
+some-missing-requires c κs = search needs
 
 returns-2 : tie.Need-returns-2
 returns-2 c = let m = c .before in
     let d = m .before .before .before in
     let s = d .before .before .before in
-    ap (λ (b : Bool). test 26 b) (sym (c .if1 .taken)) ∙ missing-asked (s .args .n) (s .args .distances .now) (s .args .parents .now) (d .check-degrees .result) (d .check-degrees .ensures) (m .before .enum-told .given .1) (s .pre .matrix) (m .survey-matrix .result) (m .survey-matrix .ensures)
+    ap (λ (b : Bool). test 26 b) (sym (c .if1 .taken)) ∙ missing-asked (s .args .n) (s .args .distances .now) (s .args .parents .now) (d .check-degrees .result) (d .check-degrees .ensures) (m .before .enum-told .given .1) (m .some-missing .result) (m .some-missing .ensures)
 
 returns-3 : tie.Need-returns-3
 returns-3 c = let m = c .before in
     let d = m .before .before .before in
     let s = d .before .before .before in
-    ap (λ (b : Bool). test 26 b) (sym (c .if1 .left)) ∙ missing-asked (s .args .n) (s .args .distances .now) (s .args .parents .now) (d .check-degrees .result) (d .check-degrees .ensures) (m .before .enum-told .given .1) (s .pre .matrix) (m .survey-matrix .result) (m .survey-matrix .ensures)
+    ap (λ (b : Bool). test 26 b) (sym (c .if1 .left)) ∙ missing-asked (s .args .n) (s .args .distances .now) (s .args .parents .now) (d .check-degrees .result) (d .check-degrees .ensures) (m .before .enum-told .given .1) (m .some-missing .result) (m .some-missing .ensures)
 
 pub check-resolved-spec : {M : Type 1} → statement M
 check-resolved-spec =
@@ -44,6 +44,6 @@ check-resolved-spec =
     enum-known-degrees
     returns
     enum-told
-    survey-matrix-requires
+    some-missing-requires
     returns-2
     returns-3)

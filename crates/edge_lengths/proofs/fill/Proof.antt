@@ -72,11 +72,11 @@ module _ (p : tie.Start Inv-loop μ-loop) where
     thousandth : SFits w64 (nearest den num)
     thousandth = fits-abs (nearest den num) (omega (arith, rounded-near den num (low .positive) near))
 
-no-lengths-requires : tie.Need-no-lengths-requires Inv-loop μ-loop
-no-lengths-requires c κs = search needs
+edge-zeros-requires : tie.Need-edge-zeros-requires Inv-loop μ-loop
+edge-zeros-requires c κs = search needs
 
 loop-holds : tie.Need-loop-holds Inv-loop μ-loop
-loop-holds c = let p = c .before .before .before in lowering-start (K p) (f p) (p .args .numerators .now) (p .args .denominators .now) (c .no-lengths .result) (p .pre .1 .1 .0) (p .pre .1 .1 .1) (c .no-lengths .ensures)
+loop-holds c = let p = c .before .before .before in lowering-start (K p) (f p) (p .args .numerators .now) (p .args .denominators .now) (c .edge-zeros .result) (p .pre .1 .1 .0) (p .pre .1 .1 .1) (c .edge-zeros .ensures)
 
 edge-length-requires : tie.Need-edge-length-requires Inv-loop μ-loop
 edge-length-requires c κs = (c .before .before .before .before .before .pre .0, omega arith)
@@ -158,7 +158,7 @@ fill-spec =
     (tie.spec
     Inv-loop
     μ-loop
-    no-lengths-requires
+    edge-zeros-requires
     loop-holds
     edge-length-requires
     cast-bottom

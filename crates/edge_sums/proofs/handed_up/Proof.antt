@@ -14,11 +14,11 @@ Inv-loop edges parents own₀ sums₀ v₀ own sums v = SharesAt edges parents o
 abbrev μ-loop : tie.MeasureT-loop
 μ-loop edges parents own₀ sums₀ v₀ own sums v = edges - v
 
-no-sums-requires : tie.Need-no-sums-requires Inv-loop μ-loop
-no-sums-requires c κs = search needs
+edge-zeros-requires : tie.Need-edge-zeros-requires Inv-loop μ-loop
+edge-zeros-requires c κs = search needs
 
 loop-holds : tie.Need-loop-holds Inv-loop μ-loop
-loop-holds c = let p = c .before .before in hand-start (p .pre .0) (p .args .own .now) (p .pre .1 .1) (p .pre .1 .0) _ (c .no-sums .ensures)
+loop-holds c = let p = c .before .before in hand-start (p .pre .0) (p .args .own .now) (p .pre .1 .1) (p .pre .1 .0) _ (c .edge-zeros .ensures)
 
 mul-whole : tie.Need-mul-whole Inv-loop μ-loop
 mul-whole c = search needs
@@ -73,7 +73,7 @@ handed-up-spec =
     (tie.spec
     Inv-loop
     μ-loop
-    no-sums-requires
+    edge-zeros-requires
     loop-holds
     mul-whole
     element-copy-out-whole

@@ -12,11 +12,11 @@ Inv-loop edges d numerators lengths₀ v₀ lengths v = Written edges d numerato
 abbrev μ-loop : tie.MeasureT-loop
 μ-loop edges d numerators lengths₀ v₀ lengths v = edges - v
 
-no-lengths-requires : tie.Need-no-lengths-requires Inv-loop μ-loop
-no-lengths-requires c κs = search needs
+edge-zeros-requires : tie.Need-edge-zeros-requires Inv-loop μ-loop
+edge-zeros-requires c κs = search needs
 
 loop-holds : tie.Need-loop-holds Inv-loop μ-loop
-loop-holds c = written-start _ _ _ _ (c .no-lengths .ensures)
+loop-holds c = written-start _ _ _ _ (c .edge-zeros .ensures)
 
 mul-thousandths : tie.Need-mul-thousandths Inv-loop μ-loop
 mul-thousandths c = search needs
@@ -55,7 +55,7 @@ rounded-spec =
     (tie.spec
     Inv-loop
     μ-loop
-    no-lengths-requires
+    edge-zeros-requires
     loop-holds
     mul-thousandths
     shared-slice-copy-out-thousandths

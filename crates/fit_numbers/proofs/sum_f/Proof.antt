@@ -16,7 +16,7 @@ use Rattle.exact.proofs.Sign.{fits-abs, back-pos}
 use Rattle.exact.proofs.Order.{≤-pos}
 use Rattle.matrix.specs.Place.{distance}
 use Rattle.fit_theory.specs.Quantities.{partsIn}
-use Rattle.pairs.specs.Next.{ahead}
+use Rattle.pairs.proofs.Following.{ahead, Follows, follows}
 use Rattle.pairs.proofs.Turns.{PairAt, pair-start, swept-start, pair-next, swept-end}
 use Rattle.fit_numbers.proofs.Terms.{term-whole, gathered-next, gathered-is}
 use Rattle.fit_numbers.specs.Terms.{termOf}
@@ -41,19 +41,23 @@ accumulate-requires c κs = search needs
 next-pair-requires : tie.Need-next-pair-requires Inv-loop μ-loop
 next-pair-requires c κs = search needs
 
+-- what the next pair tells
+next : (c : tie.After-next-pair Inv-loop μ-loop) → let l = c .before .before .before .before .loop in Follows (l .i) (l .j) (c .next-pair .result)
+next c = let l = c .before .before .before .before in
+    follows (l .loop .i) (l .loop .j) (l .loop .inv .0 .rising) (omega (arith, c .before .before .before .loop-test .taken, l .before .before .before .pre .0 .standing .allowed .few)) (c .next-pair .result) (c .next-pair .ensures)
+
 loop-less : tie.Need-loop-less Inv-loop μ-loop
-loop-less c = c .next-pair .ensures .nearer _ (omega arith)
+loop-less c = next c .nearer _ (omega arith)
 
 loop-again : tie.Need-loop-again Inv-loop μ-loop
 loop-again c = let l = c .before .before .before .before in
     let p = l .before .before .before in
     let a = p .args in
-    let f = termOf (a .edges) (a .d) (a .distances .now) (a .parents .now) (a .numerators .now) in
-    let next = c .next-pair .ensures in (
-      pair-next (l .loop .inv .0) (c .before .before .before .loop-test .taken) next,
+    let f = termOf (a .edges) (a .d) (a .distances .now) (a .parents .now) (a .numerators .now) in (
+      pair-next (l .loop .inv .0) (c .before .before .before .loop-test .taken) (next c),
       omega arith,
       gathered-next f _ _ _ _ _ _ (l .loop .inv .2) (c .before .accumulate .ensures)
-          (ap (λ (z : ℤ). toZ w64 (ofZ w64 z)) (c .before .before .product .ensures) ∙ term-whole (p .pre .0) (p .pre .1 .0) (l .loop .i, l .loop .j)) next,
+          (ap (λ (z : ℤ). toZ w64 (ofZ w64 z)) (c .before .before .product .ensures) ∙ term-whole (p .pre .0) (p .pre .1 .0) (l .loop .i, l .loop .j)) (next c),
     )
 
 -- F at the end

@@ -16,7 +16,7 @@ use Rattle.fit_theory.specs.Quantities.{partsIn}
 use Rattle.matrix.specs.Limits.{maxPairs}
 use Rattle.tree_theory.specs.Limits.{maxEdges}
 use Rattle.paths.proofs.Climb.{few-edges}
-use Rattle.pairs.specs.Next.{ahead}
+use Rattle.pairs.proofs.Following.{ahead, Follows, follows}
 use Rattle.pairs.specs.Ready.{remainderAt}
 use Rattle.pairs.proofs.Turns.{PairAt, pair-start, swept-start, pair-next, swept-end}
 use Rattle.fit_numbers.proofs.Squares.{squareOf, square-fits, squares-fit, squares-next, hops-fit, hops-next}
@@ -73,16 +73,20 @@ add-h c = record { fits = omega (arith, small (c .before .before)) }
 next-pair-requires : tie.Need-next-pair-requires Inv-loop μ-loop
 next-pair-requires c κs = search needs
 
+-- what the next pair tells
+next : (c : tie.After-next-pair Inv-loop μ-loop) → let l = at (c .before .before .before) .loop in Follows (l .i) (l .j) (c .next-pair .result)
+next c = let w = c .before .before .before in let l = at w in
+    follows (l .loop .i) (l .loop .j) (l .loop .inv .0 .rising) (omega (arith, taken w, l .before .before .before .pre .0 .standing .allowed .few)) (c .next-pair .result) (c .next-pair .ensures)
+
 loop-less : tie.Need-loop-less Inv-loop μ-loop
-loop-less c = c .next-pair .ensures .nearer _ (omega arith)
+loop-less c = next c .nearer _ (omega arith)
 
 loop-again : tie.Need-loop-again Inv-loop μ-loop
 loop-again c = let w = c .before .before .before in
-    let l = at w in
-    let next = c .next-pair .ensures in (
-      pair-next (l .loop .inv .0) (taken w) next,
-      squares-next _ (off w) (l .before .before .before .pre .1) _ _ (l .loop .inv .0 .rising) (taken w) _ (read w) (l .loop .r) (l .loop .inv .1) _ next,
-      hops-next _ (partsIn (l .before .before .before .args .distances .now) (l .before .before .before .args .parents .now)) _ _ _ (l .loop .inv .2) _ (w .strayed .ensures .edges-is) next,
+    let l = at w in (
+      pair-next (l .loop .inv .0) (taken w) (next c),
+      squares-next _ (off w) (l .before .before .before .pre .1) _ _ (l .loop .inv .0 .rising) (taken w) _ (read w) (l .loop .r) (l .loop .inv .1) _ (next c),
+      hops-next _ (partsIn (l .before .before .before .args .distances .now) (l .before .before .before .args .parents .now)) _ _ _ (l .loop .inv .2) _ (w .strayed .ensures .edges-is) (next c),
     )
 
 -- R at the end

@@ -23,18 +23,18 @@ returns-4 : tie.Need-returns-4
 returns-4 c = let at = c .before in
     is-12-high _ _ (lent (at .before .before .before)) (at .before .before .if1 .left) (at .before .if2 .left) (at .if3 .left) (c .if4 .taken)
 
-first-numerator-out-requires : tie.Need-first-numerator-out-requires
-first-numerator-out-requires c κs = search needs
+first-at-fault-requires : tie.Need-first-at-fault-requires
+first-at-fault-requires c κs = search needs
 
 returns-5 : tie.Need-returns-5
 returns-5 c = let at = c .before .before in
     is-13 _ _ (lent (at .before .before .before .before)) (at .before .before .before .if1 .left) (at .before .before .if2 .left) (at .before .if3 .left) (at .if4 .left)
-    (c .before .first-numerator-out .result) (c .before .first-numerator-out .ensures) (c .if5 .taken)
+    (c .before .first-at-fault .result) (c .before .first-at-fault .ensures) (c .if5 .taken)
 
 returns-6 : tie.Need-returns-6
 returns-6 c = let at = c .before .before in
     is-0 _ _ (lent (at .before .before .before .before)) (at .before .before .before .if1 .left) (at .before .before .if2 .left) (at .before .if3 .left) (at .if4 .left)
-    (c .before .first-numerator-out .result) (c .before .first-numerator-out .ensures) (c .if5 .left)
+    (c .before .first-at-fault .result) (c .before .first-at-fault .ensures) (c .if5 .left)
 
 pub check-lengths-spec : {M : Type 1} → statement M
-check-lengths-spec = tie.close (tie.spec returns returns-2 returns-3 returns-4 first-numerator-out-requires returns-5 returns-6)
+check-lengths-spec = tie.close (tie.spec returns returns-2 returns-3 returns-4 first-at-fault-requires returns-5 returns-6)

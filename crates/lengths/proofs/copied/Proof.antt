@@ -1,4 +1,4 @@
--- The array is filled from the front; past the numerators it keeps its no-lengths.
+-- The array is filled from the front; past the numerators it keeps its edge-zeros.
 use borrow.Author.Needs.{needs}
 use Prim.Native.Nat.{_-_}
 use native.Mathlib.Omega.{arith}
@@ -15,11 +15,11 @@ Inv-loop numerators kept₀ v₀ kept v = Copying (pos 0) 125 numerators v kept
 abbrev μ-loop : tie.MeasureT-loop
 μ-loop numerators kept₀ v₀ kept v = length numerators - v
 
-no-lengths-requires : tie.Need-no-lengths-requires Inv-loop μ-loop
-no-lengths-requires c κs = search needs
+edge-zeros-requires : tie.Need-edge-zeros-requires Inv-loop μ-loop
+edge-zeros-requires c κs = search needs
 
 loop-holds : tie.Need-loop-holds Inv-loop μ-loop
-loop-holds c = copy-start (pos 0) 125 _ _ (c .no-lengths .ensures)
+loop-holds c = copy-start (pos 0) 125 _ _ (c .edge-zeros .ensures)
 
 mul-kept : tie.Need-mul-kept Inv-loop μ-loop
 mul-kept c = search needs
@@ -51,7 +51,7 @@ copied-spec =
     (tie.spec
     Inv-loop
     μ-loop
-    no-lengths-requires
+    edge-zeros-requires
     loop-holds
     mul-kept
     shared-slice-copy-out-kept

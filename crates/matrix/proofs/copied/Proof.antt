@@ -14,11 +14,11 @@ Inv-loop distances kept₀ k₀ kept k = Copying 0 2016 distances k kept
 abbrev μ-loop : tie.MeasureT-loop
 μ-loop distances kept₀ k₀ kept k = length distances - k
 
-zeros-requires : tie.Need-zeros-requires Inv-loop μ-loop
-zeros-requires c κs = search needs
+no-distances-requires : tie.Need-no-distances-requires Inv-loop μ-loop
+no-distances-requires c κs = search needs
 
 loop-holds : tie.Need-loop-holds Inv-loop μ-loop
-loop-holds c = copy-start 0 2016 _ _ (c .zeros .ensures)
+loop-holds c = copy-start 0 2016 _ _ (c .no-distances .ensures)
 
 mul-kept : tie.Need-mul-kept Inv-loop μ-loop
 mul-kept c = search needs
@@ -50,7 +50,7 @@ copied-spec =
     (tie.spec
     Inv-loop
     μ-loop
-    zeros-requires
+    no-distances-requires
     loop-holds
     mul-kept
     shared-slice-read-kept

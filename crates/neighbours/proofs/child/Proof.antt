@@ -17,7 +17,7 @@ element-copy-out-result : tie.Need-element-copy-out-result
 element-copy-out-result c = search needs
 
 returns : tie.Need-returns
-returns c = let p = c .before in p .pre .0 .child (p .args .w) (p .args .k) (p .pre .1 .0) (p .pre .1 .2)
+returns c = let p = c .before in p .pre .0 .child (p .args .w) (p .args .k) (omega (arith, p .pre .1)) (p .pre .1 .2)
 
 cast-result : tie.Need-cast-result
 cast-result c = let p = c .before in record { fits = omega (arith, returns c, child-le (parentOf (p .args .parents .now)) (p .args .w) (p .args .k) (length (p .args .parents .now)), p .pre .1) }

@@ -121,7 +121,7 @@ loop-again c = let t = c .before in let l = t .before .loop .listed in let i = t
 returns : tie.Need-returns Inv-loop μ-loop
 returns c = let p = c .before .before .before .before .before in let i = c .before .loop .inv in
     let e : c .before .loop .v ≡ length (p .args .parents .now) = omega arith in
-    record { child = λ w k h l. subst (λ x. getD (c .before .loop .listed) (3 * w + k) 0 ≡ childTo (parentOf (p .args .parents .now)) w k x) e (i .4 w k (omega (arith, p .pre .0 .few, p .pre .0 .most)) l) }
+    record { size = i .1; child = λ w k h l. subst (λ x. getD (c .before .loop .listed) (3 * w + k) 0 ≡ childTo (parentOf (p .args .parents .now)) w k x) e (i .4 w k h l) }
 
 pub child-table-spec : {M : Type 1} → statement M
 child-table-spec =

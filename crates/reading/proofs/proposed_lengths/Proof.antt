@@ -23,11 +23,11 @@ ends : (c : tie.Else1)
     (at + 12 + 8 * number 2 (bytes c) (at + 6 + 4) ≤ length (bytes c)) × (length (bytes c) ≤ maxSheet)
 ends c = lengths-end _ (bytes c) (c .before .before .pre .0 .2) (omega arith) _ (c .before .before .pre .0 .3)
 
-no-lengths-requires : tie.Need-no-lengths-requires
-no-lengths-requires c κs = search needs
+edge-zeros-requires : tie.Need-edge-zeros-requires
+edge-zeros-requires c κs = search needs
 
 returns : tie.Need-returns
-returns c = without-lengths _ _ _ (c .before .if1 .taken) refl refl refl (c .no-lengths .ensures)
+returns c = without-lengths _ _ _ (c .before .if1 .taken) refl refl refl (c .edge-zeros .ensures)
 
 add-body : tie.Need-add-body
 add-body c = record { fits = omega (arith, ends c) }
@@ -41,8 +41,8 @@ u16-at-requires c κs = omega (arith, ends c)
 cast-if2 : tie.Need-cast-if2
 cast-if2 c = search needs
 
-no-lengths-requires-2 : tie.Need-no-lengths-requires-2
-no-lengths-requires-2 c κs = search needs
+edge-zeros-requires-2 : tie.Need-edge-zeros-requires-2
+edge-zeros-requires-2 c κs = search needs
 
 returns-2 : tie.Need-returns-2
 returns-2 c = let read = c .before .before in
@@ -67,13 +67,13 @@ pub proposed-lengths-spec : {M : Type 1} → statement M
 proposed-lengths-spec =
     tie.close
     (tie.spec
-    no-lengths-requires
+    edge-zeros-requires
     returns
     add-body
     add-u16-at
     u16-at-requires
     cast-if2
-    no-lengths-requires-2
+    edge-zeros-requires-2
     returns-2
     u32-at-requires
     add-numerators

@@ -7,8 +7,8 @@ use Rattle.reading.proofs.refused.Tie as tie
 no-distances-requires : tie.Need-no-distances-requires
 no-distances-requires c κs = search needs
 
-no-lengths-requires : tie.Need-no-lengths-requires
-no-lengths-requires c κs = search needs
+edge-zeros-requires : tie.Need-edge-zeros-requires
+edge-zeros-requires c κs = search needs
 
 returns : tie.Need-returns
 returns c = (
@@ -21,9 +21,9 @@ returns c = (
     end = refl;
     denominator = refl;
     edges = refl;
-    numerators = c .no-lengths .ensures;
+    numerators = c .edge-zeros .ensures;
   },
 )
 
 pub refused-spec : {M : Type 1} → statement M
-refused-spec = tie.close (tie.spec no-distances-requires no-lengths-requires returns)
+refused-spec = tie.close (tie.spec no-distances-requires edge-zeros-requires returns)

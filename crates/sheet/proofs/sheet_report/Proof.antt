@@ -33,8 +33,8 @@ returns c = let r = c .before .before .before .before in
 enum-told : tie.Need-enum-told
 enum-told c = search needs
 
-no-lengths-requires : tie.Need-no-lengths-requires
-no-lengths-requires c κs = search needs
+edge-zeros-requires : tie.Need-edge-zeros-requires
+edge-zeros-requires c κs = search needs
 
 array-share-prefix-distances : tie.Need-array-share-prefix-distances
 array-share-prefix-distances c = held (c .before .before .before) .room
@@ -60,12 +60,12 @@ slice-aggregate-report-proposal-2 c = proposed (c .before .before .before .befor
 array-borrow-prefix-rounded : tie.Need-array-borrow-prefix-rounded
 array-borrow-prefix-rounded c = let told = c .before .before .before .before .before .before in
     let r = told .before .before in
-    front-there (r .before .before .args .rule) _ (r .read .result) (r .read .ensures) (told .enum-told .given .1) _ (c .before .before .before .no-lengths .ensures)
+    front-there (r .before .before .args .rule) _ (r .read .result) (r .read .ensures) (told .enum-told .given .1) _ (c .before .before .before .edge-zeros .ensures)
 
 slice-aggregate-report-proposal-3 : tie.Need-slice-aggregate-report-proposal-3
 slice-aggregate-report-proposal-3 c = let told = c .before .before .before .before .before .before .before in
     let r = told .before .before in
-    front-size (r .before .before .args .rule) _ (r .read .result) (r .read .ensures) (told .enum-told .given .1) _ (c .before .before .before .before .no-lengths .ensures)
+    front-size (r .before .before .args .rule) _ (r .read .result) (r .read .ensures) (told .enum-told .given .1) _ (c .before .before .before .before .edge-zeros .ensures)
 
 report-proposal-requires : tie.Need-report-proposal-requires
 report-proposal-requires c κs = let told = c .before .before .before .before .before .before .before in to-parts (held told) Posted (read-posted _ _ (told .before .before .read .ensures) (told .enum-told .given .1))
@@ -85,13 +85,13 @@ returns-2 c = let found = c .before .before in
     let told = done .before .before .before .before .before .before .before .before in
     let r = told .before .before in
     refused-sheet _ _ (c .unfitted2 .result) (found .found .given .0 .0) (c .unfitted2 .ensures .0) (c .unfitted2 .ensures .1)
-    (sym (ap answerOf (found .found .given .1)) ∙ asked _ _ (r .read .result) (r .read .ensures) (told .enum-told .given .1) _ (done .before .before .before .before .before .no-lengths .ensures) _ (done .report-proposal .result) (done .report-proposal .ensures))
+    (sym (ap answerOf (found .found .given .1)) ∙ asked _ _ (r .read .result) (r .read .ensures) (told .enum-told .given .1) _ (done .before .before .before .before .before .edge-zeros .ensures) _ (done .report-proposal .result) (done .report-proposal .ensures))
 
 returns-3 : tie.Need-returns-3
 returns-3 c = let done = c .before .before .before in
     let told = done .before .before .before .before .before .before .before .before in
     let r = told .before .before in
-    fitted-sheet _ _ (r .read .result) (r .read .ensures) (told .enum-told .given .1) _ (done .before .before .before .before .before .no-lengths .ensures) _ (done .report-proposal .result) (done .report-proposal .ensures) (c .enum-told2 .given .1)
+    fitted-sheet _ _ (r .read .result) (r .read .ensures) (told .enum-told .given .1) _ (done .before .before .before .before .before .edge-zeros .ensures) _ (done .report-proposal .result) (done .report-proposal .ensures) (c .enum-told2 .given .1)
 
 pub sheet-report-spec : {M : Type 1} → statement M
 sheet-report-spec =
@@ -102,7 +102,7 @@ sheet-report-spec =
     unfitted-requires
     returns
     enum-told
-    no-lengths-requires
+    edge-zeros-requires
     array-share-prefix-distances
     slice-aggregate-report-proposal
     sub-report-proposal

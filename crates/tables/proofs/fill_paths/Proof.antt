@@ -11,7 +11,7 @@ use Rattle.matrix.proofs.Places.{row-place-bound}
 use Rattle.tree_theory.specs.Chain.{parentOf, partsPair}
 use Rattle.exact.specs.Table.{entryOf}
 use Rattle.paths.proofs.Bounds.{path-near}
-use Rattle.pairs.specs.Next.{ahead}
+use Rattle.pairs.proofs.Following.{ahead, Follows, follows}
 use Rattle.tables.proofs.Filling.{Filling, fill-start, fill-turn, fill-end}
 use Rattle.tables.proofs.fill_paths.Statement.{statement}
 use Rattle.tables.proofs.fill_paths.Tie as tie
@@ -48,8 +48,14 @@ slice-set-from-paths c = room c
 next-pair-requires : tie.Need-next-pair-requires Inv-loop μ-loop
 next-pair-requires c κs = search needs
 
+-- what the next pair tells
+next : (c : tie.After-next-pair Inv-loop μ-loop) → let l = c .before .before .before .before .loop in Follows (l .i) (l .j) (c .next-pair .result)
+next c = let at = c .before .before .before in
+    follows (at .before .loop .i) (at .before .loop .j) (at .before .loop .inv .rising)
+    (omega (arith, at .loop-test .taken, at .before .before .before .pre .0 .allowed .few)) (c .next-pair .result) (c .next-pair .ensures)
+
 loop-less : tie.Need-loop-less Inv-loop μ-loop
-loop-less c = c .next-pair .ensures .nearer _ (c .before .before .before .loop-test .taken)
+loop-less c = next c .nearer _ (c .before .before .before .loop-test .taken)
 
 loop-again : tie.Need-loop-again Inv-loop μ-loop
 loop-again c =
@@ -58,7 +64,7 @@ loop-again c =
     let e = c .before .path .ensures in
     fill-turn _ _ _ _ _ (c .next-pair .result) (at .loop-test .taken) (c .before .before .row-place .ensures)
     (back _ (omega (arith, ap natAbs e, path-near (at .before .before .before .pre .1 .0) (omega (arith, S .few, S .most)) (parentOf (at .before .before .before .args .parents .now)) (at .before .loop .i, at .before .loop .j))) ∙ e)
-    (c .next-pair .ensures) (at .before .loop .inv)
+    (next c) (at .before .loop .inv)
 
 same-length : tie.Need-same-length Inv-loop μ-loop
 same-length c = search needs

@@ -22,7 +22,7 @@ abbrev read : tie.After-enum-told2 → tie.After-enum-told
 read c = c .before .before .before .before .before .before
 
 -- the place behind the tree's answer, where the three tables of zeros are there
-abbrev asked : tie.After-no-lengths2 → tie.After-enum-told2
+abbrev asked : tie.After-edge-zeros2 → tie.After-enum-told2
 asked c = c .before .before .before
 
 few : (c : tie.After-enum-told) → c .before .before .read .result .end - c .before .before .read .result .parents ≤ maxEdges
@@ -88,14 +88,14 @@ enum-told-2 c = search needs
 sub-edges : tie.Need-sub-edges
 sub-edges c = held (read c) .starts
 
-no-lengths-requires : tie.Need-no-lengths-requires
-no-lengths-requires c κs = search needs
+edge-zeros-requires : tie.Need-edge-zeros-requires
+edge-zeros-requires c κs = search needs
 
 no-denominators-requires : tie.Need-no-denominators-requires
 no-denominators-requires c κs = search needs
 
-no-lengths-requires-2 : tie.Need-no-lengths-requires-2
-no-lengths-requires-2 c κs = search needs
+edge-zeros-requires-2 : tie.Need-edge-zeros-requires-2
+edge-zeros-requires-2 c κs = search needs
 
 array-share-prefix-distances-2 : tie.Need-array-share-prefix-distances-2
 array-share-prefix-distances-2 c = held (read (asked c)) .room
@@ -113,10 +113,10 @@ part-resolve-end : tie.Need-part-resolve-end
 part-resolve-end c = held (read (asked (c .before))) .ends
 
 array-borrow-prefix-tops : tie.Need-array-borrow-prefix-tops
-array-borrow-prefix-tops c = let n = c .before .before in front-there (pos 0) _ (n .before .before .no-lengths .ensures) _ (few (read (asked n)))
+array-borrow-prefix-tops c = let n = c .before .before in front-there (pos 0) _ (n .before .before .edge-zeros .ensures) _ (few (read (asked n)))
 
 slice-aggregate-resolve-2 : tie.Need-slice-aggregate-resolve-2
-slice-aggregate-resolve-2 c = let n = c .before .before .before in front-size (pos 0) _ (n .before .before .no-lengths .ensures) _ (few (read (asked n)))
+slice-aggregate-resolve-2 c = let n = c .before .before .before in front-size (pos 0) _ (n .before .before .edge-zeros .ensures) _ (few (read (asked n)))
 
 array-borrow-prefix-bottoms : tie.Need-array-borrow-prefix-bottoms
 array-borrow-prefix-bottoms c = let n = c .before .before .before in front-there 0 _ (n .before .no-denominators .ensures) _ (few (read (asked n)))
@@ -125,10 +125,10 @@ slice-aggregate-resolve-3 : tie.Need-slice-aggregate-resolve-3
 slice-aggregate-resolve-3 c = let n = c .before .before .before .before in front-size 0 _ (n .before .no-denominators .ensures) _ (few (read (asked n)))
 
 array-borrow-prefix-rounded : tie.Need-array-borrow-prefix-rounded
-array-borrow-prefix-rounded c = let n = c .before .before .before .before in front-there (pos 0) _ (n .no-lengths2 .ensures) _ (few (read (asked n)))
+array-borrow-prefix-rounded c = let n = c .before .before .before .before in front-there (pos 0) _ (n .edge-zeros2 .ensures) _ (few (read (asked n)))
 
 slice-aggregate-resolve-4 : tie.Need-slice-aggregate-resolve-4
-slice-aggregate-resolve-4 c = let n = c .before .before .before .before .before in front-size (pos 0) _ (n .no-lengths2 .ensures) _ (few (read (asked n)))
+slice-aggregate-resolve-4 c = let n = c .before .before .before .before .before in front-size (pos 0) _ (n .edge-zeros2 .ensures) _ (few (read (asked n)))
 
 resolve-requires : tie.Need-resolve-requires
 resolve-requires c κs =
@@ -141,9 +141,9 @@ resolve-requires c κs =
       (
         resolved _ (r .read .result) (r .read .ensures) (told .enum-told .given .1) (done .check-resolved .result) (done .check-resolved .ensures) (asked n .enum-told2 .given .1),
         (
-          sym (front-size (pos 0) _ (n .before .before .no-lengths .ensures) _ (few told)) ∙ all,
+          sym (front-size (pos 0) _ (n .before .before .edge-zeros .ensures) _ (few told)) ∙ all,
           sym (front-size 0 _ (n .before .no-denominators .ensures) _ (few told)) ∙ all,
-          sym (front-size (pos 0) _ (n .no-lengths2 .ensures) _ (few told)) ∙ all,
+          sym (front-size (pos 0) _ (n .edge-zeros2 .ensures) _ (few told)) ∙ all,
         ),
       ),
     )
@@ -156,7 +156,7 @@ returns-3 c =
     let done = asked n .before .before in
     let fit = c .before .before .before in
     fitted-sheet _ (r .read .result) (r .read .ensures) (told .enum-told .given .1) (done .check-resolved .result) (done .check-resolved .ensures) (asked n .enum-told2 .given .1)
-    _ _ _ (n .before .before .no-lengths .ensures) (n .before .no-denominators .ensures) (n .no-lengths2 .ensures) _ _ _ (fit .resolve .result) (fit .resolve .ensures .0) (fit .resolve .ensures .1)
+    _ _ _ (n .before .before .edge-zeros .ensures) (n .before .no-denominators .ensures) (n .edge-zeros2 .ensures) _ _ _ (fit .resolve .result) (fit .resolve .ensures .0) (fit .resolve .ensures .1)
 
 pub unfitted-fit-spec : {M : Type 1} → statement M
 unfitted-fit-spec =
@@ -178,9 +178,9 @@ unfitted-fit-spec =
     returns-2
     enum-told-2
     sub-edges
-    no-lengths-requires
+    edge-zeros-requires
     no-denominators-requires
-    no-lengths-requires-2
+    edge-zeros-requires-2
     array-share-prefix-distances-2
     slice-aggregate-resolve
     sub-resolve

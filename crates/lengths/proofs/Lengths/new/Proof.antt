@@ -21,11 +21,11 @@ copied-requires c κs =
     let p = →proper (s .args .edges) (s .args .d) (s .args .numerators .now) (sym (c .before .before .check-lengths .ensures) ∙ ap answerOf (c .enum-told .given .1)) in
     omega (arith, p .whole, p .few)
 
-enum-known-reason : tie.Need-enum-known-reason
-enum-known-reason c = search needs
+enum-known-refusal : tie.Need-enum-known-refusal
+enum-known-refusal c = search needs
 
-no-lengths-requires : tie.Need-no-lengths-requires
-no-lengths-requires c κs = search needs
+edge-zeros-requires : tie.Need-edge-zeros-requires
+edge-zeros-requires c κs = search needs
 
 returns : tie.Need-returns
 returns c =
@@ -39,8 +39,8 @@ returns c =
 
 returns-2 : tie.Need-returns-2
 returns-2 c =
-    let e = sym (ap answerOf (c .before .before .reason .given .1)) ∙ c .before .before .before .before .check-lengths .ensures in
-    record { answer = e; kept = λ z. absurd (not-pass (c .before .before .reason .given .0 .0) (e ∙ z)); blank = λ _. record { denominator = refl; edges = refl; numerators = c .no-lengths .ensures } }
+    let e = sym (ap answerOf (c .before .before .refusal .given .1)) ∙ c .before .before .before .before .check-lengths .ensures in
+    record { answer = e; kept = λ z. absurd (not-pass (c .before .before .refusal .given .0 .0) (e ∙ z)); blank = λ _. record { denominator = refl; edges = refl; numerators = c .edge-zeros .ensures } }
 
 pub new-spec : {M : Type 1} → statement M
-new-spec = tie.close (tie.spec check-lengths-requires enum-told copied-requires enum-known-reason no-lengths-requires returns returns-2)
+new-spec = tie.close (tie.spec check-lengths-requires enum-told copied-requires enum-known-refusal edge-zeros-requires returns returns-2)

@@ -23,11 +23,11 @@ copied-requires c κs =
     let p = →proper (s .args .n) (s .args .distances .now) (sym (c .before .before .check-matrix .ensures) ∙ ap answerOf (c .enum-told .given .1)) in
     omega (arith, p .whole, pairs-few (s .args .n) (p .few))
 
-enum-known-reason : tie.Need-enum-known-reason
-enum-known-reason c = search needs
+enum-known-refusal : tie.Need-enum-known-refusal
+enum-known-refusal c = search needs
 
-zeros-requires : tie.Need-zeros-requires
-zeros-requires c κs = search needs
+no-distances-requires : tie.Need-no-distances-requires
+no-distances-requires c κs = search needs
 
 returns : tie.Need-returns
 returns c =
@@ -37,8 +37,8 @@ returns c =
 
 returns-2 : tie.Need-returns-2
 returns-2 c =
-    let e = sym (ap answerOf (c .before .before .reason .given .1)) ∙ c .before .before .before .before .check-matrix .ensures in
-    record { answer = e; kept = λ z. absurd (not-pass (c .before .before .reason .given .0 .0) (e ∙ z)); blank = λ _. record { strains = refl; distances = c .zeros .ensures } }
+    let e = sym (ap answerOf (c .before .before .refusal .given .1)) ∙ c .before .before .before .before .check-matrix .ensures in
+    record { answer = e; kept = λ z. absurd (not-pass (c .before .before .refusal .given .0 .0) (e ∙ z)); blank = λ _. record { strains = refl; distances = c .no-distances .ensures } }
 
 pub new-spec : {M : Type 1} → statement M
-new-spec = tie.close (tie.spec check-matrix-requires enum-told copied-requires enum-known-reason zeros-requires returns returns-2)
+new-spec = tie.close (tie.spec check-matrix-requires enum-told copied-requires enum-known-refusal no-distances-requires returns returns-2)

@@ -21,8 +21,8 @@ copied-requires c κs =
     let a = allowed→ (s .args .n) (s .args .parents .now) (sym (c .before .before .check-tree .ensures) ∙ ap answerOf (c .enum-told .given .1)) in
     omega (arith, a .few, a .most)
 
-enum-known-reason : tie.Need-enum-known-reason
-enum-known-reason c = search needs
+enum-known-refusal : tie.Need-enum-known-refusal
+enum-known-refusal c = search needs
 
 no-parents-requires : tie.Need-no-parents-requires
 no-parents-requires c κs = search needs
@@ -35,8 +35,8 @@ returns c =
 
 returns-2 : tie.Need-returns-2
 returns-2 c =
-    let e = sym (ap answerOf (c .before .before .reason .given .1)) ∙ c .before .before .before .before .check-tree .ensures in
-    record { answer = e; kept = λ z. absurd (not-pass (c .before .before .reason .given .0 .0) (e ∙ z)); blank = λ _. record { strains = refl; size = refl; parents = c .no-parents .ensures } }
+    let e = sym (ap answerOf (c .before .before .refusal .given .1)) ∙ c .before .before .before .before .check-tree .ensures in
+    record { answer = e; kept = λ z. absurd (not-pass (c .before .before .refusal .given .0 .0) (e ∙ z)); blank = λ _. record { strains = refl; size = refl; parents = c .no-parents .ensures } }
 
 pub new-spec : {M : Type 1} → statement M
-new-spec = tie.close (tie.spec check-tree-requires enum-told copied-requires enum-known-reason no-parents-requires returns returns-2)
+new-spec = tie.close (tie.spec check-tree-requires enum-told copied-requires enum-known-refusal no-parents-requires returns returns-2)
