@@ -1,14 +1,7 @@
 // Reads a sheet without lengths from standard input and prints the direct fit of its tree, or `refused`, the
 // number and the place. Where reading fails it prints nothing.
+use programs::Print;
+
 fn main() {
-    let mut space = streams::room();
-    let taken = streams::take_in(&mut space);
-    if !taken.whole {
-        return;
-    }
-    let mut text = pages::page();
-    streams::put_out(
-        pages::unfitted_print(&space[..taken.count], &mut text),
-        &text,
-    );
+    programs::show(Print::Resolved);
 }

@@ -1,17 +1,17 @@
-// What stands around a program on a sheet: room for its bytes, standard input and standard output. A program has
-// no exit status to give: where reading or writing fails it says so on standard error, and what it wrote to
-// standard output is then no whole answer.
+// Standard input and standard output for the programs, and what is said where they fail. A program has no exit status
+// to give: where reading or writing fails it says so on standard error, and what it wrote to standard output is then
+// no whole answer.
 use libc::STDERR_FILENO;
 use libc::STDIN_FILENO;
 use libc::STDOUT_FILENO;
 use records::Layout;
 ghost use mathlib.Core.Path.{_≡_};
-ghost use mathlib.Core.Bool.{false};
-ghost use Prim.Native.Nat.{ℕ, _+_, _≤_, _<_};
+ghost use Prim.Native.Nat.{_+_, _^_, _≤_, _<_};
 ghost use lib.ListN.{length};
 ghost use Rattle.io.specs.Counts.{Counts};
+ghost use Rattle.exact.specs.Table.{table};
 ghost use Rattle.records.specs.Form.{maxSheet};
-ghost use Rattle.streams.specs.Steps.{stepOf};
+ghost use Rattle.streams.specs.Reads.{readOf, ReadIn};
 
 // What came of reading: how many bytes stand at the front of the buffer, and whether no read failed.
 pub struct Taken {
@@ -19,55 +19,62 @@ pub struct Taken {
     pub whole: bool,
 }
 
+// Where reading stands behind one read: it goes on with so many bytes, or it is over.
+pub enum Reading {
+    On(usize),
+    Over(Taken),
+}
+
 // Zeros, one byte more than a sheet may have: whatever follows, a longer one is refused for its length.
 pub fn room() -> [u8; Layout::MAX_SHEET + 1]
-    ensures { λ r. ⌜ maxSheet + 1 ≡ length r ⌝ }
+    ensures { λ r. ⌜ r ≡ table (maxSheet + 1) (λ _. 0) ⌝ }
 {
     [0; Layout::MAX_SHEET + 1]
 }
 
-// What one read came to.
-pub enum Step {
-    Failed,
-    Ended,
-    More(usize),
-}
-
-// The same by the number that the read into a buffer gave.
-fn came_to(got: isize, left: &[u8]) -> Step
-    ensures { λ r. ⌜ r ≡ stepOf got (length (now (left .entry))) ⌝ }
-    ensures { λ r. ⌜ ((m : ℕ) → r ≡ Step.More m → (m ≤ length (now (left .entry))) × (1 ≤ length (now (left .entry)) → 1 ≤ m)) ⌝ }
+// Where reading stands, by how many bytes had come before, the number that the read gave, and what was left of the
+// buffer.
+fn after_read(count: usize, got: isize, left: &[u8]) -> Reading
+    requires { ⌜ count + length (now left) < 2 ^ 64 ⌝ }
+    ensures { λ r. ⌜ r ≡ readOf count got (length (now (left .entry))) ⌝ }
 {
     if got < 0 {
-        return Step::Failed;
+        return Reading::Over(Taken {
+            count,
+            whole: false,
+        });
     }
     if got == 0 {
-        return Step::Ended;
+        return Reading::Over(Taken { count, whole: true });
     }
-    Step::More(io::count(got, left))
+    Reading::On(count + io::count(got, left))
+}
+
+// Says on standard error what went wrong, where something did; whether nothing did.
+fn say_unless(well: bool, wrong: &[u8]) -> bool
+    ensures { λ r. ⌜ r ≡ well ⌝ }
+{
+    if !well {
+        io::write_all(STDERR_FILENO, wrong);
+    }
+    well
 }
 
 // Fills a buffer from standard input until it is full, the input ends or a read fails, which it says.
 pub fn take_in(space: &mut [u8]) -> Taken
     ensures { λ r. ⌜ Counts (r .count) (now (space .exit)) ⌝ }
-    ensures { λ r. ⌜ (r .whole ≡ false → r .count < length (now (space .exit))) ⌝ }
+    ensures { λ r. ⌜ ReadIn (length (now (space .entry))) 0 r ⌝ }
 {
     let mut count = 0;
     while count < space.len() {
         let got = libc::read(STDIN_FILENO, &mut space[count..]);
-        match came_to(got, &space[count..]) {
-            Step::Failed => {
-                io::write_all(STDERR_FILENO, b"standard input could not be read\n");
-                return Taken {
-                    count,
-                    whole: false,
-                };
+        match after_read(count, got, &space[count..]) {
+            Reading::On(next) => {
+                count = next;
             }
-            Step::Ended => {
-                return Taken { count, whole: true };
-            }
-            Step::More(more) => {
-                count += more;
+            Reading::Over(taken) => {
+                say_unless(taken.whole, b"standard input could not be read\n");
+                return taken;
             }
         }
     }
@@ -79,9 +86,8 @@ pub fn take_in(space: &mut [u8]) -> Taken
 pub fn put_out(count: usize, text: &[u8]) -> bool
     requires { ⌜ count ≤ length (now text) ⌝ }
 {
-    let written = io::write_all(STDOUT_FILENO, &text[..count]);
-    if !written {
-        io::write_all(STDERR_FILENO, b"standard output could not be written\n");
-    }
-    written
+    say_unless(
+        io::write_all(STDOUT_FILENO, &text[..count]),
+        b"standard output could not be written\n",
+    )
 }

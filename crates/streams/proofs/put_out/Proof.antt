@@ -11,17 +11,14 @@ slice-aggregate-write-all c = simp length-take (omega arith)
 write-all-requires : tie.Need-write-all-requires
 write-all-requires c κs = search needs
 
-slice-aggregate-write-all-2 : tie.Need-slice-aggregate-write-all-2
-slice-aggregate-write-all-2 c = search needs
+slice-aggregate-say-unless : tie.Need-slice-aggregate-say-unless
+slice-aggregate-say-unless c = search needs
 
-write-all-requires-2 : tie.Need-write-all-requires-2
-write-all-requires-2 c κs = search needs
+say-unless-requires : tie.Need-say-unless-requires
+say-unless-requires c κs = search needs
 
 returns : tie.Need-returns
 returns c = search needs
-
-returns-2 : tie.Need-returns-2
-returns-2 c = search needs
 
 pub put-out-spec : {M : Type 1} → statement M
 put-out-spec =
@@ -29,7 +26,6 @@ put-out-spec =
     (tie.spec
     slice-aggregate-write-all
     write-all-requires
-    slice-aggregate-write-all-2
-    write-all-requires-2
-    returns
-    returns-2)
+    slice-aggregate-say-unless
+    say-unless-requires
+    returns)
