@@ -3,8 +3,8 @@
  * --not-negative, or -0, no length may be negative.
  * Built, on x86-64, with
  *     rt staticlib sheet
- *     rt staticlib prints
- *     cc -Iinclude examples/viewer.c target/staticlib/libprints.a target/staticlib/libsheet.a -o viewer
+ *     rt staticlib pages
+ *     cc -Iinclude examples/viewer.c target/staticlib/libpages.a target/staticlib/libsheet.a -o viewer
  * It ends with 0 where every sheet was accepted, with 1 where one was refused, and with 2 where one could not be
  * read or the verdicts could not be written. */
 #include <stdio.h>

@@ -1,6 +1,6 @@
 /* The verdict on a sheet, the direct fit of a resolved tree, and the prints of sheets, for programs in C and C++. Every
  * function is proved: it answers whatever it is lent, and reads and writes nothing outside that. Link with libsheet.a
- * for the verdict, libresolving.a for the fit, libprints.a for the prints; where several are wanted, libprints.a first. */
+ * for the verdict, libdirect_fit.a for the fit, libpages.a for the prints; where several are wanted, libpages.a first. */
 #ifndef VAMUTHEXA_H
 #define VAMUTHEXA_H
 
@@ -52,7 +52,7 @@ enum { VAMUTHEXA_PAGE = 16384 };
  * and the place of its refusal, as `refused 14 edge 0 2`. Each line ends in LF; no zero follows the last. Returns how
  * many bytes were written, at most VAMUTHEXA_PAGE, and leaves all behind them as it was. Where `size`, the bytes that
  * are lent at `text`, is below VAMUTHEXA_PAGE, it writes nothing and returns 0. The two buffers may not overlap. Link
- * with libprints.a. */
+ * with libpages.a. */
 size_t sheet_print(const uint8_t *sheet, size_t length, uint8_t *text, size_t size);
 
 /* The same where no length may be negative, as the program `report0` prints it. */
@@ -67,7 +67,7 @@ size_t unfitted_print(const uint8_t *sheet, size_t length, uint8_t *text, size_t
  * below j, stands at distances[j(j-1)/2 + i], so the order is 01, 02, 12, 03, 13, 23, .. and a strain more appends; a
  * sheet has its distances in rows, 01, 02, .., 0(n-1), 12, .. No pair may be missing. The number is 4, 6 to 10, 16, 25, 26
  * or 15, or 0 where the buffers are filled; otherwise they are as they were. No buffer may overlap another, nor a table
- * that is lent beside it. Link with libresolving.a. */
+ * that is lent beside it. Link with libdirect_fit.a. */
 uint32_t resolved_lengths(uint32_t n, const uint16_t *distances, size_t distance_count, const uint8_t *parents,
                           size_t parent_count, int64_t *numerators, size_t numerator_count, uint32_t *denominators,
                           size_t denominator_count, int64_t *rounded, size_t rounded_count);
