@@ -9,6 +9,12 @@ and for the direct fit every resolved tree of up to six strains, random ones, ca
 to 64, with the exact solver's lengths, and sheets without lengths that are refused.
 What must be printed comes from the plain reading (reading.py) and the solver (solver.py) alone.
 
+A figure stands here for what it shows, and the program reads 524,288 bytes at most. Every number, every place, both
+sides of each limit and every shape of tree are here. Trees of many strains take most of the bytes, so they come at the
+sizes where something can go wrong: 17 strains; 32 and 33, about the width of a word; 63 and 64, about that of a
+cluster's mask and the most there may be. Draws of one class are as many as the counts below ask. The verdict at the
+sizes between is left to tests/run, which compares it on more than 300,000 sheets of all sizes (tests/compare.c).
+
     tests/make_figures.py            writes crates/figures/stdin and crates/figures/stdout
     tests/make_figures.py --check    says whether they are what this script writes
     tests/make_figures.py --example  prints the small example of a matrix with missing pairs and two fits"""
@@ -132,11 +138,12 @@ def fits(rng):
         n = rng.randint(4, 11)
         take("wild", n, grown(n, rng, 5), [rng.choice((0, 1, 7, 500, 49999, 50000)) for _ in reading.pairs_of(n)])
     # whole lengths, some negative, and distances that do not settle: any size
-    for n in (3, 4, 5, 9, 16, 17, 31, 32, 33, 47, 63, 64):
-        kinds = [("star", star(n)), ("tree", grown(n, rng, 4))]
-        if n >= 6:
-            kinds += [("caterpillar", caterpillar(n)), ("balanced", balanced(n)), ("resolved", grown(n, rng, 2))]
-        for name, shape in kinds:
+    every = (("star", star), ("tree", lambda n: grown(n, rng, 4)), ("caterpillar", caterpillar), ("balanced", balanced),
+             ("resolved", lambda n: grown(n, rng, 2)))
+    for n, kinds in ((3, every[:2]), (4, every[:2]), (5, every[:2]), (9, every), (17, every), (32, every[1:3]), (33, every[1:3]),
+                     (63, every[2:3]), (64, every[:3])):
+        for name, made in kinds:
+            shape = made(n)
             parents = table_of(shape, n)
             distances = [-1]
             while min(distances) < 0 or max(distances) > 50000:
@@ -224,17 +231,21 @@ def table_one():
 
 
 def sixteenths():
-    """A star of 18 strains: where 17 goes into the sum of all distances, a length is its strain's row sum less that
-    seventeenth, over 16. Distances are drawn until 15/16, 13/16 and their negatives are among the lengths; the same fit
-    over denominators up to the largest."""
+    """A star of 18 strains: a length is its strain's row sum less a seventeenth of the sum of all distances, over 16. So
+    any numerators over 16 that add to 16 times a whole number are had by row sums, each that number and its numerator;
+    the distances grow by single units between the two strains that lack most. 15/16, 13/16 and their negatives are
+    among the lengths. The same fit over denominators up to the largest."""
     rng = random.Random(16)
-    n, numerators = 18, []
-    pairs = reading.pairs_of(n)
-    while not {15, 13, -13, -15} <= set(numerators):
-        distances = [rng.choice((0, 0, 0, 0, rng.randint(1, 9))) for _ in pairs]
-        distances[0] += -sum(distances) % 17
-        numerators = [sum(d for d, p in zip(distances, pairs) if i in p) - sum(distances) // 17 for i in range(n)]
-    parents = table_of(star(n), n)
+    n, numerators = 18, [15, 13, -13, -15] + [rng.randint(-9, 60) for _ in range(14)]
+    numerators[-1] += -sum(numerators) % 16
+    lacking = [sum(numerators) // 16 + x for x in numerators]
+    units = dict.fromkeys(reading.pairs_of(n), 0)
+    while any(lacking):
+        pair = tuple(sorted(sorted(range(n), key=lambda i: -lacking[i])[:2]))
+        units[pair] += 1
+        for i in pair:
+            lacking[i] -= 1
+    distances, parents = list(units.values()), table_of(star(n), n)
     assert solver.solve(n, distances, parents) == [Fraction(x, 16) for x in numerators]
     for denominator in (16, 1984, 2000, 1000000):
         yield n, distances, parents, denominator, [x * denominator // 16 for x in numerators]
@@ -366,8 +377,8 @@ class Incomplete:
 
     def __init__(self, rng):
         self.fitted, self.unseen, self.far = [], [], 0
-        while len(self.fitted) < 240 or self.several() < 60 or sum(1 for x in self.fitted if x[0][0] > 12) < 14:
-            more = len(self.fitted) >= 225 and rng.random() < 0.5
+        while len(self.fitted) < 96 or self.several() < 60 or sum(1 for x in self.fitted if x[0][0] > 12) < 6:
+            more = len(self.fitted) >= 90 and rng.random() < 0.5
             n = rng.choice((13, 15, 16, 18, 20)) if more else rng.randint(3, 12)
             shape = rng.choice((star(n), grown(n, rng, 2), grown(n, rng, 2), grown(n, rng, 4), caterpillar(n) if n > 3 else star(n),
                                 balanced(n) if n > 5 else grown(n, rng, 3)))
@@ -402,7 +413,7 @@ class Incomplete:
         if reading.seen_answer(*posted):
             # an edge that parts no measured pair can have any length; so it is free
             assert reading.seen_answer(*posted)[2] in solved.free
-            if len(self.unseen) < 80:
+            if len(self.unseen) < 30:
                 self.unseen.append((posted, tables))
             return
         # both readings of the model agree that these are fits, and every fit has the same sum of squares
@@ -776,8 +787,8 @@ def unfitted():
     for n in (3, 4, 5, 6):
         for shape in resolved_shapes(n):
             out.append(reading.bare_sheet(n, anything(n), table_of(shape, n)))
-    for n in (7, 8, 9, 11, 13, 16, 17, 21, 24, 32, 40, 47, 64):
-        kinds = [caterpillar(n), balanced(n)] + [grown(n, rng, 2) for _ in range(6 if n < 32 else 1)]
+    for n in (7, 8, 9, 10, 11, 12, 13, 17, 32, 33, 64):
+        kinds = [caterpillar(n), balanced(n)] + [grown(n, rng, 2) for _ in range(6 if n < 17 else 1)]
         for shape in kinds:
             out.append(reading.bare_sheet(n, anything(n), table_of(shape, n)))
     # all alike, all zero, as far apart as may be
@@ -830,6 +841,11 @@ def ties(prints):
     return [kinds.count((negative, odd)) for negative in (False, True) for odd in (0, 1)]
 
 
+def numbers(prints):
+    """The numbers of refusal among these prints."""
+    return sorted({int(lines[0].split()[1]) for lines in prints if lines[0].startswith("refused")})
+
+
 def main():
     if "--example" in sys.argv:
         show_example()
@@ -844,6 +860,8 @@ def main():
     stdin = b"".join(led(kind, s) for kind, some in given for s in some)
     judged, resolved = [reading.print_of(s) for s in made], [reading.resolved_print(s, solver.solve) for s in bare]
     assert all(ties(judged)) and all(ties(resolved))
+    assert numbers(judged) == [*range(1, 15), 16, 26] and numbers(resolved) == [*range(1, 11), 16, 25, 26]
+    assert numbers(second.prints) == [*range(2, 15), 16, 22, 23, 26]
     due = judged + resolved + second.prints + second.again_prints
     stdout = "".join(" ".join(lines) + "\n" for lines in due).encode()
     files = {"stdin": stdin, "stdout": stdout}
@@ -859,17 +877,16 @@ def main():
     if "--check" in sys.argv:
         print(told)
         same = all(open(os.path.join(CRATE, name), "rb").read() == data for name, data in files.items())
-        print("%d sheets, %d accepted; %d without lengths, %d resolved: %s" % (len(made), accepted, len(bare),
-              stdout.count(b"resolved "), "as made" if same else "NOT as made"))
+        print("%d sheets, %d accepted; %d without lengths, %d resolved; %d bytes in all: %s" % (len(made), accepted, len(bare),
+              stdout.count(b"resolved "), len(stdin), "as made" if same else "NOT as made"))
         return 0 if same else 1
     os.makedirs(CRATE, exist_ok=True)
     for name, data in files.items():
         with open(os.path.join(CRATE, name), "wb") as file:
             file.write(data)
     print(told)
-    print("%d sheets, %d accepted, %d without lengths, %d resolved, ties %s and %s, numbers %s" % (len(made), accepted,
-          len(bare), stdout.count(b"resolved "), ties(judged), ties(resolved),
-          sorted({int(line.split()[1]) for line in stdout.decode().splitlines() if line.startswith("refused")})))
+    print("%d sheets, %d accepted, %d without lengths, %d resolved, ties %s and %s; %d bytes in all" % (len(made), accepted,
+          len(bare), stdout.count(b"resolved "), ties(judged), ties(resolved), len(stdin)))
     return 0
 
 
