@@ -12,23 +12,16 @@ use Rattle.exact.specs.Sum.{sum, pairs, ind}
 use Rattle.exact.specs.LeastSquares.{path}
 use Rattle.exact.proofs.Decide.{by-cases, eq-yes, eq-no, eqb-sym}
 use Rattle.exact.proofs.Quote.{by-ring, quote}
-use Rattle.exact.proofs.Sum.{sum-suc, sum-cong, sum-cut, sum-+, ind-no}
+use Rattle.exact.proofs.Sum.{sum-suc, sum-cong, sum-cut, sum-+, ind-and, ind-no}
 use Rattle.tree_theory.specs.Chain.{pass, lift, below, parts}
 use Rattle.tree_theory.proofs.Chains.{Below, Up, bit, along, below?, below-no, below-step, not-below, lift-lift, parts-ind}
 use Rattle.edge_sums.specs.Meets.{Meets}
-
-both-ind : (b c : Bool) → ind (b && c) ≡ ind b *ℤ ind c
-unfolding ind
-both-ind true true = refl
-both-ind true false = refl
-both-ind false true = refl
-both-ind false false = refl
 
 -- what parts i and j, by where they meet
 pub parts-meet : (par : ℕ → ℕ) (K i j m : ℕ) → Meets K par i j m → (v : ℕ) → v < K
     → ind (parts par v i j) ≡ bit par v i +ℤ bit par v j -ℤ pos 2 *ℤ bit par v m
 parts-meet par K i j m w v l = parts-ind par v i j
-    ∙ ap (λ y. bit par v i +ℤ bit par v j -ℤ pos 2 *ℤ y) (sym (ap ind (w .common v (omega arith)) ∙ both-ind (below par i v) (below par j v)))
+    ∙ ap (λ y. bit par v i +ℤ bit par v j -ℤ pos 2 *ℤ y) (sym (ap ind (w .common v (omega arith)) ∙ ind-and (below par i v) (below par j v)))
 
 -- the way of i over the vertices below v
 unfoldable pub climbed : (ℕ → ℕ) → (ℕ → ℤ) → ℕ → ℕ → ℤ

@@ -22,7 +22,7 @@ use Rattle.exact.proofs.Sum.{pairs-sums, S-sq}
 use Rattle.exact.proofs.Sign.{natAbs-sub, within→abs, abs→within}
 use Rattle.exact.proofs.LeastSquares.{Tops, minimum, rounding, tops, minimum⁰, rounding⁰, tops⁰, paths-by}
 use Rattle.exact.proofs.Rounding.{nearest-near}
-use Rattle.exact.proofs.Sweep.{sweep-end, sweep-within, sweep-nn, sweep-le, term-le}
+use Rattle.exact.proofs.Sweep.{sweep-end, pairs-abs, sweep-nn, sweep-le, term-le}
 use Rattle.matrix.specs.Place.{distance}
 use Rattle.exact.specs.Table.{entryOf}
 use Rattle.verdict.specs.declared.Rule.{Rule}
@@ -45,11 +45,6 @@ cancel-4 : (R X H : ℤ) → pos 4 *ℤ (pos 1 *ℤ pos 1) *ℤ R ≤ᶻ pos 400
     → X ≤ᶻ pos 5040000000000 → H ≤ᶻ pos 31500000 → R ≤ᶻ pos 5040000000007875000
 cancel-4 R X H h x k = *-cancel {c = pos 4} (record { lt = tt })
     (le-by (nn+ (nn-sub h) (nn+ (nn* (nn-pos 4000000) (nn-sub x)) (nn-sub k))) (by-ring (R ∷ X ∷ H ∷ []) (search quote depth 20) tt))
-
--- a sum over at most 2,016 pairs
-pairs-abs : (N b : ℕ) (f : ℕ × ℕ → ℤ) → N ≤ 64 → ((p : ℕ × ℕ) → natAbs (f p) ≤ b) → natAbs (pairs N f) ≤ 2016 * b
-pairs-abs N b f few h = subst (λ y. natAbs y ≤ 2016 * b) (sweep-end f N)
-    (sweep-within N b f few (λ p _ _. h p) N 0 (le-refl N) (omega arith) (inr refl))
 
 -- ---- H over any incidence of few edges: at most 2016 * 125²
 pub h-high : (K : ℕ) → K ≤ 125 → (parts : ℕ → ℕ × ℕ → Bool) (N : ℕ) → N ≤ 64 → sumH (pairs N) K parts ≤ᶻ pos 31500000
