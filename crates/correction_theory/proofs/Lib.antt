@@ -1,0 +1,6 @@
+pub mod SheetA
+pub mod Asked
+pub mod Moves
+pub mod Counted
+pub mod Afresh
+pub mod Run

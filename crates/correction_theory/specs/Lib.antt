@@ -1,0 +1,3 @@
+pub mod Correction
+pub mod Kept
+pub mod Run
