@@ -10,7 +10,7 @@ use native.Mathlib.Decide.{ℕ-discrete}
 use native.Mathlib.Omega.{arith}
 use borrow.Author.Tests.{ltb-false, leb-false, eqb-false}
 use lib.Dec.{eqb, leb}
-use lib.ListN.{length, set, length-set, getD}
+use lib.ListN.{set, length-set}
 use lib.Seq.{getD-set-same, getD-set-other}
 use Rattle.exact.proofs.Decide.{by-cases}
 use Rattle.verdict.specs.Answer.{pass, fault, test}

@@ -1,7 +1,7 @@
 -- An edge parts no measured pair exactly where its count is zero (`unseen-counts`): no pair counts less than 0, and one that is
 -- measured and parted counts 1. So 26 can be read off the counts.
 use mathlib.Core.Path.{_≡_, refl, sym, _∙_, ap, subst}
-use mathlib.Core.Bool.{Bool, true, false, not}
+use mathlib.Core.Bool.{Bool, true, false}
 use mathlib.Core.List.{List}
 use Prim.Native.Nat.{ℕ, _<_}
 use native.Mathlib.Decide.{ℕ-discrete}
@@ -9,12 +9,11 @@ use native.Mathlib.Omega.{arith}
 use borrow.Author.Tests.{not-true}
 use lib.Dec.{eqb}
 use lib.IntN.{ℤ, pos, natAbs, _*ℤ_, zero-*ℤ, *ℤ-zero}
-use lib.ListN.{length}
 use lib.Signed.{≤ℤ-refl}
 use Rattle.exact.specs.Order.{_≤ᶻ_}
-use Rattle.exact.specs.Sum.{pairs, ind}
+use Rattle.exact.specs.Sum.{ind}
 use Rattle.exact.proofs.Decide.{by-cases, eq-yes, eq-no}
-use Rattle.exact.proofs.Order.{≤-pos, nn-pos}
+use Rattle.exact.proofs.Order.{≤-pos}
 use Rattle.exact.proofs.Sum.{pairs-cong, pairs-one, pairs-sums, S-zero, S-mono, ind-yes, ind-no, ind-nn}
 use Rattle.verdict.specs.Table.{some}
 use Rattle.verdict.proofs.Table.{some-none}
