@@ -163,7 +163,7 @@ pub fn check_signs(rule: Rule, numerators: &[i64]) -> Verdict
 }
 
 // The numerators, then zeros.
-fn copied(numerators: &[i64]) -> [i64; Tree::MAX_EDGES]
+pub fn copied(numerators: &[i64]) -> [i64; Tree::MAX_EDGES]
     requires { ⌜ length (now numerators) ≤ maxEdges ⌝ }
     ensures { λ r. ⌜ r ≡ table maxEdges (λ v. getD (now (numerators .entry)) v (pos 0)) ⌝ }
 {

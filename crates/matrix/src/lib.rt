@@ -231,7 +231,7 @@ pub fn no_distances() -> [u16; Matrix::MAX_PAIRS]
 }
 
 // The distances, then zeros.
-fn copied(distances: &[u16]) -> [u16; Matrix::MAX_PAIRS]
+pub fn copied(distances: &[u16]) -> [u16; Matrix::MAX_PAIRS]
     requires { ⌜ length (now distances) ≤ maxPairs ⌝ }
     ensures { λ r. ⌜ r ≡ table maxPairs (λ k. getD (now (distances .entry)) k 0) ⌝ }
 {

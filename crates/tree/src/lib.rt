@@ -62,7 +62,7 @@ pub fn no_counts() -> [u8; Tree::MAX_VERTICES]
     [0; Tree::MAX_VERTICES]
 }
 
-fn no_parents() -> [u8; Tree::MAX_EDGES]
+pub fn no_parents() -> [u8; Tree::MAX_EDGES]
     ensures { λ r. ⌜ r ≡ table maxEdges (λ _. 0) ⌝ }
 {
     [0; Tree::MAX_EDGES]
@@ -177,7 +177,7 @@ pub fn check_tree(n: u32, parents: &[u8]) -> Verdict
 }
 
 // The parents, then zeros.
-fn copied(parents: &[u8]) -> [u8; Tree::MAX_EDGES]
+pub fn copied(parents: &[u8]) -> [u8; Tree::MAX_EDGES]
     requires { ⌜ length (now parents) ≤ maxEdges ⌝ }
     ensures { λ r. ⌜ r ≡ table maxEdges (parentOf (now (parents .entry))) ⌝ }
 {
