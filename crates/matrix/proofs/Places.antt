@@ -1,6 +1,7 @@
 -- The places of the pairs, in a matrix and in rows. In either the pairs fill exactly the places below N(N-1)/2 (`place-bound`, `place-onto`;
 -- `row-place-bound`, `row-place-onto`), and no two share a place (`place-one`, `row-place-one`). `alike`: both layouts give each pair
--- the same entry. `strain-keeps`, `strain-appends`: one more strain moves nothing in a matrix. `row-code` is what the code computes.
+-- the same entry; `one-matrix-of`, `rows-of-one`: rows agree exactly where the matrices do. `strain-keeps`, `strain-appends`: one more
+-- strain moves nothing in a matrix. `row-code` is what the code computes.
 use mathlib.Core.Path.{_≡_, refl, sym, _∙_, ap, ap₂, subst}
 use mathlib.Core.List.{List, _++_}
 use Prim.Native.Nat.{ℕ, zero, suc, _+_, _-_, _*_, _/_, _≤_, _<_}
@@ -14,7 +15,7 @@ use lib.ListN.{length, getD, List·getD-append}
 use lib.Seq.{getD-append-add}
 use Rattle.exact.specs.Table.{table}
 use Rattle.exact.proofs.Decide.{by-cases}
-use Rattle.exact.proofs.Fill.{getD-table}
+use Rattle.exact.proofs.Fill.{getD-table, table-cong}
 use Rattle.matrix.specs.Limits.{maxStrains, maxPairs}
 use Rattle.matrix.specs.Place.{pairCount, place, pairPlace, behind, pairAt, known, distance, rowStart, rowPlace, fromRows}
 
@@ -180,6 +181,17 @@ from-rows N rows i j h = let p = at-place i j h in ap₂ (λ (a b : ℕ). rows (
 
 pub alike : (N : ℕ) (rows : ℕ → ℕ) (i j : ℕ) → i < j → j < N → getD (table (pairCount N) (fromRows N rows)) (place i j) 0 ≡ rows (rowPlace N i j)
 alike N rows i j h k = getD-table (pairCount N) (fromRows N rows) 0 (place i j) (place-bound N i j h k) ∙ from-rows N rows i j h
+
+-- rows that agree make one matrix, and only those do
+module _ (N : ℕ) (f g : ℕ → ℕ) where
+  pub one-matrix-of : ((k : ℕ) → k < pairCount N → f k ≡ g k) → table (pairCount N) (fromRows N f) ≡ table (pairCount N) (fromRows N g)
+  one-matrix-of e = table-cong 0 (pairCount N) (fromRows N f) (fromRows N g)
+      (λ k h. e (rowPlace N (pairAt k .0) (pairAt k .1)) (row-place-bound N (pairAt k .0) (pairAt k .1) (stands-at k .rising) (place-onto N k h)))
+
+  pub rows-of-one : table (pairCount N) (fromRows N f) ≡ table (pairCount N) (fromRows N g) → (k : ℕ) → k < pairCount N → f k ≡ g k
+  rows-of-one e k h = let r = row-place-onto N k h in
+      ap f (sym (r .there)) ∙ sym (alike N f (r .i) (r .j) (r .rising) (r .strain))
+      ∙ ap (λ (l : List ℕ). getD l (place (r .i) (r .j)) 0) e ∙ alike N g (r .i) (r .j) (r .rising) (r .strain) ∙ ap g (r .there)
 
 -- a pair's place, whichever strain is named first
 pub pair-place-up : (i j : ℕ) → i < j → pairPlace i j ≡ place i j

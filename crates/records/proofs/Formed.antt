@@ -1,16 +1,23 @@
--- What a form that stands tells: how long the sheet is, and where each record starts.
-use mathlib.Core.Path.{_≡_, ap, _∙_}
+-- What a form that stands tells: how long the sheet is, where each record starts, its kind, and that the last ends with the sheet; and the
+-- same of a record by the start that `records` gives (`record-at`).
+use mathlib.Core.Path.{_≡_, sym, ap, _∙_}
 use mathlib.Core.List.{List}
 use Prim.Native.Nat.{ℕ, suc, _+_, _<_, _≤_}
+use native.Mathlib.Omega.{arith}
 use borrow.Author.Tests.{ltb-false}
 use lib.Dec.{ltb}
-use lib.ListN.{length}
+use lib.ListN.{length, getD}
+use Rattle.exact.proofs.Decide.{by-cases}
+use Rattle.exact.proofs.Fill.{getD-table-const}
 use Rattle.verdict.specs.declared.Place.the-variants.{Byte}
 use Rattle.verdict.specs.Answer.{Answer, pass, test, testAt, _orElse_}
-use Rattle.verdict.proofs.Answers.{orElse-pass, test-pass, testAt-pass}
-use Rattle.records.specs.Form.{maxSheet, kindOf, bodyAt, bodyLength, countAt, startOf, recordsTests, formTests}
+use Rattle.verdict.proofs.Answers.{orElse-pass, test-pass, testAt-pass, passes}
+use Rattle.records.specs.Form.{maxSheet, kindOf, kindAt, endAt, bodyAt, bodyLength, countAt, startOf, recordsTests, formTests}
+use Rattle.records.specs.Laid.{maxStarts, LayoutAnswer}
+use Rattle.records.specs.declared.Layout.{Layout}
+use Rattle.records.proofs.Decoding.{padded-before}
 use Rattle.records.proofs.Counts.{counted}
-use Rattle.records.proofs.InTurn.{record-there, record-counted, next-start, each-passes}
+use Rattle.records.proofs.InTurn.{record-there, record-counted, record-kind, next-start, each-passes, starts-within}
 
 module _ (count : ℕ) (s : List ℕ) (z : formTests count s ≡ pass) where
   abbrev left : Answer
@@ -31,6 +38,10 @@ module _ (count : ℕ) (s : List ℕ) (z : formTests count s ≡ pass) where
   passed : recordsTests s count ≡ pass
   passed = orElse-pass (recordsTests s count) left behind-first .0
 
+  -- the last record ends with the sheet
+  pub form-ends : startOf s count ≡ length s
+  form-ends = omega (arith, form-whole, starts-within s count passed)
+
   -- record k is there, and as long as its counts say
   module _ (k : ℕ) (l : k < count) where
     pub record-ends : startOf s (suc k) ≤ length s
@@ -39,3 +50,28 @@ module _ (count : ℕ) (s : List ℕ) (z : formTests count s ≡ pass) where
     pub record-long : startOf s (suc k) ≡ bodyAt (startOf s k) + bodyLength (kindOf k) (countAt s (startOf s k) (kindOf k))
     record-long =
         next-start s k ∙ ap (λ (n : ℕ). bodyAt (startOf s k) + n) (counted s (startOf s k) (kindOf k) (record-counted s (startOf s k) (kindOf k) (each-passes s count passed k l)))
+
+    pub kind-due : kindAt s (startOf s k) ≡ kindOf k
+    kind-due = record-kind s (startOf s k) (kindOf k) (each-passes s count passed k l)
+
+-- what the start that `records` gives for record k tells: of any bytes, that it lies in the sheet; of a form that stands, that it is where the
+-- record starts, and the record's kind and end
+pub record RecordAt (count : ℕ) (s : List ℕ) (k at : ℕ) : Type 0 where
+  pub within : at ≤ length s
+  pub start : formTests count s ≡ pass → at ≡ startOf s k
+  pub kind : formTests count s ≡ pass → kindAt s at ≡ kindOf k
+  pub ends : formTests count s ≡ pass → endAt s at ≡ startOf s (suc k)
+
+pub record-at : (count : ℕ) (s : List ℕ) (r : Layout) → LayoutAnswer count s r → (k : ℕ) → k < count → RecordAt count s k (getD (r .starts) k 0)
+record-at count s r a k l = record {
+  within = by-cases (passes (formTests count s)) (λ z. omega (arith, start z, next-start s k, record-ends count s z k l)) (λ n. omega (arith, none n));
+  start = start;
+  kind = λ z. ap (kindAt s) (start z) ∙ kind-due count s z k l;
+  ends = λ z. ap (endAt s) (start z) ∙ sym (next-start s k);
+}
+  where
+    start : formTests count s ≡ pass → getD (r .starts) k 0 ≡ startOf s k
+    start z = ap (λ (x : List ℕ). getD x k 0) (a .starts z) ∙ padded-before 0 maxStarts (count + 1) (startOf s) k (omega arith)
+
+    none : (formTests count s ≡ pass → ⊥) → getD (r .starts) k 0 ≡ 0
+    none n = ap (λ (x : List ℕ). getD x k 0) (a .none n) ∙ getD-table-const maxStarts 0 k

@@ -6,7 +6,7 @@ use Prim.Native.Nat.{ℕ, zero, suc, _+_, _<_, _≤_}
 use native.Mathlib.Decide.{ℕ-discrete}
 use native.Mathlib.Numerals.{add-one}
 use native.Mathlib.Omega.{arith}
-use borrow.Author.Tests.{lt-ltb, le-ltb, eq-eqb, ne-eqb, ltb-false}
+use borrow.Author.Tests.{lt-ltb, le-ltb, eq-eqb, ne-eqb, ltb-false, eqb-true, not-false}
 use lib.Dec.{eqb, ltb}
 use lib.ListN.{length, set}
 use Rattle.exact.specs.Table.{table}
@@ -40,19 +40,23 @@ module _ (s : List ℕ) (at kind : ℕ) where
       by-counts k out e =
           ap (testAt 4 (Byte at)) (sym e) ∙ simp (le-ltb (length s) (at + headSize) h, le-ltb (length s) (endAt s at) b, eq-eqb (kindAt s at) kind k)
 
-  -- a record that passes is there, whole, and its counts are in order
-  passes : recordTests s at kind ≡ pass → (testAt 2 (Byte at) (bodyCut s at) ≡ pass) × (testAt 4 (Byte at) (countsOut s at kind) ≡ pass)
+  -- a record that passes is there, whole, of the kind that is due, and its counts are in order
+  passes : recordTests s at kind ≡ pass → (testAt 2 (Byte at) (bodyCut s at) ≡ pass) × (testAt 3 (Byte at) (not (eqb (kindAt s at) kind)) ≡ pass) × (testAt 4 (Byte at) (countsOut s at kind) ≡ pass)
   passes z =
       let kinds = testAt 3 (Byte at) (not (eqb (kindAt s at) kind)) in
       let counts = testAt 4 (Byte at) (countsOut s at kind) in
       let (_, z1) = orElse-pass (testAt 2 (Byte at) (headCut s at)) (testAt 2 (Byte at) (bodyCut s at) orElse kinds orElse counts) z in
-      let (z2, z3) = orElse-pass (testAt 2 (Byte at) (bodyCut s at)) (kinds orElse counts) z1 in (z2, orElse-pass kinds counts z3 .1)
+      let (z2, z3) = orElse-pass (testAt 2 (Byte at) (bodyCut s at)) (kinds orElse counts) z1 in
+      let (z4, z5) = orElse-pass kinds counts z3 in (z2, z4, z5)
 
   pub record-there : recordTests s at kind ≡ pass → endAt s at ≤ length s
   record-there z = ltb-false (length s) (endAt s at) (testAt-pass 2 (Byte at) (bodyCut s at) (passes z .0))
 
   pub record-counted : recordTests s at kind ≡ pass → countsOut s at kind ≡ false
-  record-counted z = testAt-pass 4 (Byte at) (countsOut s at kind) (passes z .1)
+  record-counted z = testAt-pass 4 (Byte at) (countsOut s at kind) (passes z .2)
+
+  pub record-kind : recordTests s at kind ≡ pass → kindAt s at ≡ kind
+  record-kind z = eqb-true (kindAt s at) kind (not-false (eqb (kindAt s at) kind) (testAt-pass 3 (Byte at) (not (eqb (kindAt s at) kind)) (passes z .1)))
 
 -- ---- several records
 -- an answer that does not pass stays, whatever is asked behind it
@@ -92,6 +96,11 @@ module _ (s : List ℕ) where
       let (z1, z2) = orElse-pass (recordsTests s m) (recordTests s (startOf s m) (kindOf m)) (sym (one-more m) ∙ z) in
       by-cases (ℕ-discrete k m) (λ e. ap (λ (i : ℕ). recordTests s (startOf s i) (kindOf i)) e ∙ z2)
       (λ n. each-passes m z1 k (omega arith))
+
+  -- behind records that pass starts the next one, within the sheet
+  pub starts-within : (m : ℕ) → recordsTests s m ≡ pass → startOf s m ≤ length s
+  starts-within zero z = omega (arith, first-start)
+  starts-within (suc m) z = rw (next-start m) (record-there s (startOf s m) (kindOf m) (each-passes (suc m) z m (omega arith)))
 
 -- ---- the loop: k records have passed, and the next one starts at `at`
 pub record Past (s : List ℕ) (count k at : ℕ) (starts : List ℕ) : Type 0 where

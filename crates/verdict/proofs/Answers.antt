@@ -147,6 +147,12 @@ atFirst-cong n p q f g h k = go (some n p) refl
     go false e = at-none n p f e ∙ sym (at-none n q g (sym (some-cong n p q h) ∙ e))
 
 -- ---- what holds of every refusal of a row of tests: P of its number and its place
+-- RULES, Places, "Where several are at fault it is the lowest": an entry below n that is at fault, below which every one is right
+pub record LowestAtFault (n : ℕ) (Fault Right : ℕ → Type 0) (v : ℕ) : Type 0 where
+  pub inside : v < n
+  pub fault : Fault v
+  pub below : (u : ℕ) → u < v → Right u
+
 abbrev pub Of : (ℕ → Place → Type 0) → Answer → Type 0
 Of P pass = Unit {0}
 Of P (fault k p) = P k p
@@ -156,8 +162,9 @@ module _ (P : ℕ → Place → Type 0) where
   of-test k p true h = h
   of-test k p false h = tt
 
-  pub of-row : (a b : Answer) → Of P a → Of P b → Of P (a orElse b)
-  of-row pass b h g = g
+  -- the rest is asked where the first passes
+  pub of-row : (a b : Answer) → Of P a → (a ≡ pass → Of P b) → Of P (a orElse b)
+  of-row pass b h g = g refl
   of-row (fault k p) b h g = h
 
   pub of-first : (n : ℕ) (p : ℕ → Bool) (f : ℕ → Answer) → ((i : ℕ) → i < n → p i ≡ true → ((k : ℕ) → k < i → p k ≡ false) → Of P (f i)) → Of P (atFirst n p f)
@@ -166,6 +173,10 @@ module _ (P : ℕ → Place → Type 0) where
       go : (b : Bool) → some n p ≡ b → Of P (atFirst n p f)
       go true e = let l = lowest n p e in subst (Of P) (sym (at-first n p f (first n p) (l .below) refl)) (h (first n p) (l .below) (l .fault) (l .rest))
       go false e = subst (Of P) (sym (at-none n p f e)) tt
+
+  pub of-lowest : (n : ℕ) (p : ℕ → Bool) (f : ℕ → Answer) (Fault Right : ℕ → Type 0) → ((i : ℕ) → p i ≡ true → Fault i) → ((i : ℕ) → p i ≡ false → Right i)
+      → ((i : ℕ) → LowestAtFault n Fault Right i → Of P (f i)) → Of P (atFirst n p f)
+  of-lowest n p f Fault Right bad good h = of-first n p f (λ i l e r. h i (record { inside = l; fault = bad i e; below = λ u k. good u (r u k) }))
 
   pub of-refusal : (a : Answer) (k : ℕ) (p : Place) → Of P a → a ≡ fault k p → P k p
   of-refusal a k p h e = subst (Of P) e h
