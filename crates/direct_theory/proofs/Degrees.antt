@@ -37,9 +37,18 @@ module _ (N K : ℕ) (par : ℕ → ℕ) where
   out : (w : ℕ) → N ≤ w → degree K par w ≢ 3 → degreeOut N K par w ≡ true
   out w h n = rw (le-ltb w N h) (ap not (eq-no n))
 
+  -- a vertex that is out is an inner one of another degree
+  pub of-another-degree : (w : ℕ) → degreeOut N K par w ≡ true → (N ≤ w) × (degree K par w ≡ 3 → ⊥)
+  of-another-degree w e = by-cases (decLt w N)
+      (λ l. absurd (false≢true (sym (ap (λ (b : Bool). cond b false (not (eqb (degree K par w) 3))) (lt-ltb w N l)) ∙ e)))
+      (λ l. (omega arith, λ q. false≢true (sym (ap not (eq-yes q)) ∙ sym (ap (λ (b : Bool). cond b false (not (eqb (degree K par w) 3))) (le-ltb w N (omega arith))) ∙ e)))
+
+  -- an inner one that is not out has degree three
+  pub of-degree-three : (w : ℕ) → degreeOut N K par w ≡ false → N ≤ w → degree K par w ≡ 3
+  of-degree-three w e h = by-cases (ℕ-discrete (degree K par w) 3) (λ q. q) (λ q. absurd (false≢true (sym e ∙ out w h q)))
+
   -- a tree that passes is resolved
   pub resolved : some (K + 1) (degreeOut N K par) ≡ false → Resolved N K par
   resolved e = record {
-    three = λ w h k. by-cases (ℕ-discrete (degree K par w) 3) (λ q. q)
-        (λ q. absurd (false≢true (sym (some-none (K + 1) (degreeOut N K par) e w (omega arith)) ∙ out w h q)));
+    three = λ w h k. of-degree-three w (some-none (K + 1) (degreeOut N K par) e w (omega arith)) h;
   }

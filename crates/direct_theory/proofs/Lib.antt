@@ -14,3 +14,4 @@ pub mod Values
 pub mod Reduced
 pub mod Steps
 pub mod Fitted
+pub mod Placed
