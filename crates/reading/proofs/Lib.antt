@@ -6,3 +6,4 @@ pub mod Parts
 pub mod Whole
 pub mod Readable
 pub mod Longest
+pub mod Rows
