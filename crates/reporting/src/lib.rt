@@ -44,7 +44,7 @@ pub fn silent(refusal: Refusal) -> FitReport
 
 // The numbers of lengths that fit, with the rounded lengths in the buffer. That they fit is what keeps F and R within
 // 64 bits.
-fn numbered(
+pub fn numbered(
     rule: Rule,
     n: u32,
     distances: &[u16],
