@@ -7,16 +7,12 @@ use lib.IntN.{ℤ}
 use lib.ListN.{length}
 use Rattle.verdict.specs.declared.Verdict.{Verdict}
 use Rattle.verdict.proofs.Answers.{same-answer}
-use Rattle.tree_theory.proofs.EdgeTables.{one-table}
 use Rattle.fit_theory.specs.Stands.{Posted}
 use Rattle.correction_theory.specs.Correction.{Correction}
 use Rattle.correction_theory.specs.Kept.{Keeping, Holds, Beside, afresh, keep}
 use Rattle.correction_theory.proofs.Run.{kept-step}
+use Rattle.correction_theory.proofs.Settled.{one-beside}
 use Rattle.correcting.specs.Answers.{CorrectAnswer}
-
--- what is kept beside one matrix and one tree
-pub one-beside : {N : ℕ} {ds ps : List ℕ} {ss ss′ cs cs′ : List ℤ} → Beside N ds ps ss cs → Beside N ds ps ss′ cs′ → (ss ≡ ss′) × (cs ≡ cs′)
-one-beside a b = (one-table (a .split) (b .split), one-table (a .counted) (b .counted))
 
 pub one-correction : {N : ℕ} {ps : List ℕ} {c : Correction} {before after after′ : List ℕ} {ss ss′ cs cs′ : List ℤ} {r r′ : Verdict}
     → CorrectAnswer N ps c before after ss cs r → CorrectAnswer N ps c before after′ ss′ cs′ r′ → (after ≡ after′) × (ss ≡ ss′) × (cs ≡ cs′) × (r ≡ r′)

@@ -43,13 +43,14 @@ fn distance_of(far: u16) -> i64
     far as i64
 }
 
-// By how much a correction moves the count of an edge that parts its pair, and the split sum.
+// By how much a correction moves the count of an edge that parts its pair.
 fn count_change(old: u16, far: u16) -> i64
     ensures { λ r. ⌜ r ≡ ind (isMeasured far) -ℤ ind (isMeasured old) ⌝ }
 {
     count_of(far) - count_of(old)
 }
 
+// By how much it moves the split sum of such an edge.
 fn sum_change(old: u16, far: u16) -> i64
     ensures { λ r. ⌜ r ≡ pos (known far) -ℤ pos (known old) ⌝ }
 {

@@ -8,7 +8,6 @@ use native.Mathlib.Omega.{arith}
 use lib.IntN.{ℤ, pos, _*ℤ_}
 use lib.ListN.{length, getD}
 use Rattle.exact.specs.Sum.{ind}
-use Rattle.exact.specs.Table.{table}
 use Rattle.exact.proofs.Fill.{length-table, getD-table}
 use Rattle.exact.proofs.Sum.{pairs-cong}
 use Rattle.verdict.proofs.Table.{some-no}
@@ -19,16 +18,8 @@ use Rattle.fit_theory.specs.Quantities.{partsOf, splitSum}
 use Rattle.fit_theory.specs.Stands.{Posted}
 use Rattle.fit_theory.proofs.Complete.{complete-posted}
 use Rattle.fit_theory.proofs.Steps.{all-parted}
-use Rattle.correction_theory.specs.Kept.{splitCount}
+use Rattle.correction_theory.specs.Kept.{splitCount, one, ones}
 use Rattle.correction_theory.proofs.Moves.{count-over}
-
--- 1 for a measured pair, 0 for a missing one
-abbrev pub one : ℕ → ℕ
-one x = cond (isMeasured x) 1 0
-
--- that for each entry of a matrix
-abbrev pub ones : List ℕ → List ℕ
-ones ds = table (length ds) (λ k. one (getD ds k 0))
 
 one-of : (b : Bool) → pos (known (cond b 1 0)) ≡ ind b
 unfolding known ind

@@ -4,3 +4,4 @@ pub mod Moves
 pub mod Counted
 pub mod Afresh
 pub mod Run
+pub mod Settled

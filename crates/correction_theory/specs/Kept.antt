@@ -1,13 +1,14 @@
 -- What is kept beside a matrix: for every edge its split sum and how many measured pairs it parts. A correction moves them at the
 -- edges that part its pair, by the new share of the pair less the old one, and 26 is read off the counts.
 use mathlib.Core.Path.{_≡_}
-use mathlib.Core.Bool.{Bool}
+use mathlib.Core.Bool.{Bool, cond}
 use mathlib.Core.List.{List}
 use Prim.Native.Nat.{ℕ}
 use lib.Dec.{eqb}
 use lib.IntN.{ℤ, pos, natAbs, _+ℤ_, _-ℤ_, _*ℤ_}
 use lib.ListN.{length, getD}
 use Rattle.exact.specs.Sum.{pairs, ind}
+use Rattle.exact.specs.Table.{table}
 use Rattle.verdict.specs.Answer.{Answer, fault, atFirst, _orElse_}
 use Rattle.verdict.specs.declared.Place.the-variants.{Edge}
 use Rattle.matrix.specs.Place.{pairPlace, isMeasured, known}
@@ -19,6 +20,14 @@ use Rattle.correction_theory.specs.Correction.{Correction, pairTests, co
 -- how many measured pairs edge v parts
 abbrev pub splitCount : ℕ → List ℕ → List ℕ → ℕ → ℤ
 splitCount N ds ps v = pairs N (λ p. ind (partsIn ds ps v p))
+
+-- how a count is worked afresh: 1 for a measured pair, 0 for a missing one
+abbrev pub one : ℕ → ℕ
+one x = cond (isMeasured x) 1 0
+
+-- the matrix with that for each pair; its split sums are the counts
+abbrev pub ones : List ℕ → List ℕ
+ones ds = table (length ds) (λ k. one (getD ds k 0))
 
 -- a matrix, and for each edge the sum and the count that are kept beside it
 pub record Keeping : Type 0 where
