@@ -1,3 +1,4 @@
+-- Each return says which tests did not apply before it.
 use mathlib.Core.Path.{sym, ap, _∙_}
 use lib.Dec.{ltb}
 use Rattle.verdict.specs.Answer.{test}

@@ -1,3 +1,4 @@
+-- Two small numbers, one taken off the other.
 use mathlib.Core.Path.{_∙_, ap₂}
 use borrow.Author.Needs.{needs}
 use lib.IntN.{_-ℤ_}

@@ -1,3 +1,4 @@
+-- By whether the entry is the mark.
 use mathlib.Core.Path.{sym}
 use Rattle.exact.proofs.Sum.{ind-yes, ind-no}
 use Rattle.matrix.proofs.Looking.{is-missing, is-measured}

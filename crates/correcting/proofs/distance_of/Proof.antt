@@ -1,3 +1,4 @@
+-- By whether the entry is the mark.
 use mathlib.Core.Path.{sym, ap, _∙_}
 use native.Mathlib.Omega.{arith}
 use borrow.Author.Needs.{needs}

@@ -1,3 +1,4 @@
+-- Two small numbers, one taken off the other.
 use mathlib.Core.Path.{_∙_, ap₂}
 use native.Mathlib.Omega.{arith}
 use borrow.Author.Needs.{needs}

@@ -1,3 +1,4 @@
+-- By whether the entry is the mark.
 use mathlib.Core.Path.{sym, ap}
 use mathlib.Core.Bool.{Bool, cond}
 use Rattle.matrix.proofs.Looking.{is-missing, is-measured}
