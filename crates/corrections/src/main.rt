@@ -10,6 +10,7 @@ ghost use lib.ListN.{length};
 ghost use Rattle.matrix.specs.Limits.{maxStrains};
 ghost use Rattle.matrix.specs.Place.{pairCount};
 ghost use Rattle.tree_theory.specs.Limits.{maxEdges};
+ghost use Rattle.fit_theory.specs.Stands.{Posted};
 ghost use Rattle.correction_theory.specs.Kept.{Beside};
 
 // The most bytes that are read.
@@ -115,6 +116,17 @@ fn print_pairs(n: usize, distances: &[u16])
     }
 }
 
+// Where the next correction stands: at the list's end, where a line did not go out.
+fn behind(at: usize, went: bool, list: &[u8]) -> usize
+    requires { ⌜ at + 6 ≤ length (now list) ⌝ }
+    ensures { λ r. ⌜ (at < r) × (r ≤ length (now (list .entry))) ⌝ }
+{
+    if went {
+        return at + CORRECTION;
+    }
+    list.len()
+}
+
 // Every correction of a list, one behind the other, with a line for each; whether all went out.
 fn correct_all(
     n: u32,
@@ -127,37 +139,44 @@ fn correct_all(
     requires { ⌜ Beside n (now distances) (now parents) (now sums) (now counts) ⌝ }
     ensures { λ _. ⌜ Beside n (now (distances .exit)) (now (parents .entry)) (now (sums .exit)) (now (counts .exit)) ⌝ }
 {
+    let mut went = true;
     let mut at = 0;
     while at + CORRECTION <= list.len() {
         let i = endian::u16_at(list, at) as u32;
         let j = endian::u16_at(list, at + 2) as u32;
         let far = endian::u16_at(list, at + 4);
         let answer = correcting::correct(n, distances, parents, sums, counts, i, j, far);
-        if !print_answer(answer, b"ok") {
-            return false;
-        }
-        at += CORRECTION;
+        went = print_answer(answer, b"ok");
+        at = behind(at, went, list);
     }
-    true
+    went
+}
+
+// What a list of corrections to a matrix and a tree that pass gets.
+fn work(n: u32, distances: &mut [u16], parents: &[u8], list: &[u8])
+    requires { ⌜ Posted n (now distances) (now parents) ⌝ }
+{
+    let kept = keeping::fresh(n, distances, parents);
+    let mut sums = kept.sums;
+    let mut counts = kept.counts;
+    if correct_all(n, distances, parents, &mut sums, &mut counts, list) {
+        if print_edges(parents.len(), &sums, &counts) {
+            print_pairs(n as usize, distances);
+        }
+    }
 }
 
 // What a matrix, a tree and a list of corrections get.
 fn answer(n: u32, distances: &mut [u16], parents: &[u8], list: &[u8]) {
     let posted = posting::check_posting(n, distances, parents);
-    if !print_answer(posted, b"posted") {
-        return;
-    }
-    if let Verdict::Refused(_) = posted {
-        return;
-    }
-    let kept = keeping::fresh(n, distances, parents);
-    let mut sums = kept.sums;
-    let mut counts = kept.counts;
-    if !correct_all(n, distances, parents, &mut sums, &mut counts, list) {
-        return;
-    }
-    if print_edges(parents.len(), &sums, &counts) {
-        print_pairs(n as usize, distances);
+    let went = print_answer(posted, b"posted");
+    match posted {
+        Verdict::Refused(_) => {}
+        Verdict::Accepted => {
+            if went {
+                work(n, distances, parents, list);
+            }
+        }
     }
 }
 

@@ -1,16 +1,16 @@
 -- What is kept beside the matrix stays so at every turn: that is what a correction hands back.
-use Rattle.correction_theory.specs.Kept.{Beside}
-use borrow.Author.Needs.{needs}
 use Prim.Native.Nat.{_≤_, _-_}
+use borrow.Author.Needs.{needs}
 use lib.ListN.{length}
+use Rattle.correction_theory.specs.Kept.{Beside}
 use Rattle.corrections.proofs.correct_all.Statement.{statement}
 use Rattle.corrections.proofs.correct_all.Tie as tie
 
 abbrev Inv-loop : tie.InvT-loop
-Inv-loop n distances₀ parents sums₀ counts₀ list at₀ t12 distances sums counts at = Beside n distances parents sums counts × (at ≤ length list)
+Inv-loop n distances₀ parents sums₀ counts₀ list went₀ at₀ t13 distances sums counts went at = Beside n distances parents sums counts × (at ≤ length list)
 
 abbrev μ-loop : tie.MeasureT-loop
-μ-loop n distances₀ parents sums₀ counts₀ list at₀ t12 distances sums counts at = length list - at
+μ-loop n distances₀ parents sums₀ counts₀ list went₀ at₀ t13 distances sums counts went at = length list - at
 
 loop-holds : tie.Need-loop-holds Inv-loop μ-loop
 loop-holds c = search needs
@@ -48,14 +48,8 @@ slice-aggregate-print-answer c = search needs
 print-answer-requires : tie.Need-print-answer-requires Inv-loop μ-loop
 print-answer-requires c κs = search needs
 
-same-length : tie.Need-same-length Inv-loop μ-loop
-same-length c = search needs
-
-returns : tie.Need-returns Inv-loop μ-loop
-returns c = search needs
-
-add-at : tie.Need-add-at Inv-loop μ-loop
-add-at c = search needs
+behind-requires : tie.Need-behind-requires Inv-loop μ-loop
+behind-requires c κs = search needs
 
 loop-less : tie.Need-loop-less Inv-loop μ-loop
 loop-less c = search needs
@@ -63,11 +57,11 @@ loop-less c = search needs
 loop-again : tie.Need-loop-again Inv-loop μ-loop
 loop-again c = search needs
 
-same-length-2 : tie.Need-same-length-2 Inv-loop μ-loop
-same-length-2 c = search needs
+same-length : tie.Need-same-length Inv-loop μ-loop
+same-length c = search needs
 
-returns-2 : tie.Need-returns-2 Inv-loop μ-loop
-returns-2 c = search needs
+returns : tie.Need-returns Inv-loop μ-loop
+returns c = search needs
 
 pub correct-all-spec : {M : Type 1} → statement M
 correct-all-spec =
@@ -87,10 +81,8 @@ correct-all-spec =
     correct-requires
     slice-aggregate-print-answer
     print-answer-requires
-    same-length
-    returns
-    add-at
+    behind-requires
     loop-less
     loop-again
-    same-length-2
-    returns-2)
+    same-length
+    returns)
