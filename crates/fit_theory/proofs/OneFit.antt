@@ -1,5 +1,5 @@
 -- RULES, One fit only, of a complete matrix: `one-fit` for every proposal that stands, `accepted-one` and `accepted-agree` for every input
--- that `judge` accepts. An allowed tree's incidence has no kernel (trees' `no-kernel`), so its paths settle every
+-- that `judge` accepts. An allowed tree's incidence has no kernel (tree_theory's `no-kernel`), so its paths settle every
 -- table, and exact's theorem over any such incidence does the rest.
 use mathlib.Core.Path.{_≡_, sym, subst}
 use mathlib.Core.List.{List}

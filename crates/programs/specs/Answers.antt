@@ -16,5 +16,5 @@ printOf Report0 s = sheetText Drawable s
 printOf Resolved s = unfittedText s
 
 -- the print of the bytes that came, and nothing where a read failed
-abbrev pub answerText : Print → Taken → List ℕ → List ℕ
+unfoldable pub answerText : Print → Taken → List ℕ → List ℕ
 answerText print taken space = cond (taken .whole) (printOf print (take (taken .count) space)) []

@@ -6,6 +6,7 @@ use libc::STDIN_FILENO;
 use libc::STDOUT_FILENO;
 use records::Layout;
 ghost use mathlib.Core.Path.{_≡_};
+ghost use mathlib.Core.Bool.{true};
 ghost use Prim.Native.Nat.{_+_, _^_, _≤_, _<_};
 ghost use lib.ListN.{length};
 ghost use Rattle.io.specs.Counts.{Counts};
@@ -82,12 +83,13 @@ pub fn take_in(space: &mut [u8]) -> Taken
 }
 
 // Writes so many bytes from the front of a text to standard output, or says that it could not; whether all of them
-// went out.
+// went out, as they did where there are none.
 pub fn put_out(count: usize, text: &[u8]) -> bool
     requires { ⌜ count ≤ length (now text) ⌝ }
+    ensures { λ r. ⌜ (count ≡ 0 → r ≡ true) ⌝ }
 {
     say_unless(
-        io::write_all(STDOUT_FILENO, &text[..count]),
+        count == 0 || io::write_all(STDOUT_FILENO, &text[..count]),
         b"standard output could not be written\n",
     )
 }

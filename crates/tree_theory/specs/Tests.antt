@@ -31,7 +31,7 @@ abbrev pub childrenFew : ℕ → ℕ → (ℕ → ℕ) → ℕ → Bool
 childrenFew N K par w = ltb (children K par w) (needed N K w)
 
 -- an inner vertex with fewer children than it needs, or with more than `spare` above that: what both tests over the children ask
--- (`few-is`: 10 is this with as many to spare as there are edges; resolution's `degree-is`: 25 is this with none to spare)
+-- (`few-is`: 10 is this with as many to spare as there are edges; direct_theory's `degree-is`: 25 is this with none to spare)
 abbrev pub childrenOut : ℕ → ℕ → ℕ → (ℕ → ℕ) → ℕ → Bool
 childrenOut spare N K par w =
     cond (ltb w N) false (ltb (children K par w) (needed N K w) || ltb (needed N K w + spare) (children K par w))

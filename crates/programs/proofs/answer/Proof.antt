@@ -9,7 +9,7 @@ use Rattle.programs.proofs.answer.Statement.{statement}
 use Rattle.programs.proofs.answer.Tie as tie
 
 returns : tie.Need-returns
-returns c = let a = c .before .before .before .before .args in nothing (a .print) (a .taken) (a .space .now) (a .text .now) (not-true _ (c .if1 .taken))
+returns c = nothing _ _ _ _ (not-true _ (c .if1 .taken))
 
 slice-aggregate-sheet : tie.Need-slice-aggregate-sheet
 slice-aggregate-sheet c = simp length-take (omega arith)
@@ -36,22 +36,19 @@ same-length : tie.Need-same-length
 same-length c = search needs
 
 returns-2 : tie.Need-returns-2
-returns-2 c = let a = c .before .before .before .before .before .before .before .before .before .before .before .args in
-    printed (a .print) Report (a .taken) (a .space .now) _ _ _ (not-false _ (c .before .before .before .before .before .before .before .if1 .left)) (c .before .before .before .before .enum-told .given .1) (c .before .before .sheet-print .ensures)
+returns-2 c = printed _ Report _ _ _ _ _ (not-false _ (c .before .before .before .before .before .before .before .if1 .left)) (c .before .before .before .before .enum-told .given .1) (c .before .before .sheet-print .ensures)
 
 same-length-2 : tie.Need-same-length-2
 same-length-2 c = search needs
 
 returns-3 : tie.Need-returns-3
-returns-3 c = let a = c .before .before .before .before .before .before .before .before .before .before .before .args in
-    printed (a .print) Report0 (a .taken) (a .space .now) _ _ _ (not-false _ (c .before .before .before .before .before .before .before .if1 .left)) (c .before .before .before .before .enum-told2 .given .1) (c .before .before .sheet-print0 .ensures)
+returns-3 c = printed _ Report0 _ _ _ _ _ (not-false _ (c .before .before .before .before .before .before .before .if1 .left)) (c .before .before .before .before .enum-told2 .given .1) (c .before .before .sheet-print0 .ensures)
 
 same-length-3 : tie.Need-same-length-3
 same-length-3 c = search needs
 
 returns-4 : tie.Need-returns-4
-returns-4 c = let a = c .before .before .before .before .before .before .before .before .before .before .before .args in
-    printed (a .print) Resolved (a .taken) (a .space .now) _ _ _ (not-false _ (c .before .before .before .before .before .before .before .if1 .left)) (c .before .before .before .before .enum-told3 .given .1) (c .before .before .unfitted-print .ensures)
+returns-4 c = printed _ Resolved _ _ _ _ _ (not-false _ (c .before .before .before .before .before .before .before .if1 .left)) (c .before .before .before .before .enum-told3 .given .1) (c .before .before .unfitted-print .ensures)
 
 pub answer-spec : {M : Type 1} → statement M
 answer-spec =

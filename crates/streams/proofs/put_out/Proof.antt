@@ -1,6 +1,9 @@
--- The bytes that are written are the front of the text.
+-- The bytes that are written are the front of the text; where there are none the answer is yes.
 use native.Mathlib.Omega.{arith}
 use lib.ListN.{length-take}
+use mathlib.Core.Path.{_∙_}
+use borrow.Author.Tests.{eq-eqb}
+use mathlib.Core.Logic.{⊎-elim}
 use borrow.Author.Needs.{needs}
 use Rattle.streams.proofs.put_out.Statement.{statement}
 use Rattle.streams.proofs.put_out.Tie as tie
@@ -18,7 +21,7 @@ say-unless-requires : tie.Need-say-unless-requires
 say-unless-requires c κs = search needs
 
 returns : tie.Need-returns
-returns c = search needs
+returns c = λ e. c .say-unless .ensures ∙ ⊎-elim (λ w. w .1 ∙ eq-eqb _ 0 e) (λ w. absurd (w .0 .left e)) (c .before .before .if1 .came)
 
 pub put-out-spec : {M : Type 1} → statement M
 put-out-spec =
