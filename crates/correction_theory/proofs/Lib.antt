@@ -4,4 +4,5 @@ pub mod Moves
 pub mod Counted
 pub mod Afresh
 pub mod Run
+pub mod Same
 pub mod Settled
