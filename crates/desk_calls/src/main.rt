@@ -55,6 +55,7 @@ fn behind(kind: u32, b: u32, c: u32) -> usize {
 // The distances of a posting, then zeros.
 fn distances_of(rest: &[u8], count: usize) -> [u16; Matrix::MAX_PAIRS]
     requires { ⌜ (count ≤ maxPairs) × (2 * count ≤ length (now rest)) ⌝ }
+    ensures { λ r. ⌜ maxPairs ≡ length r ⌝ }
 {
     let mut held = matrix::no_distances();
     let mut k = 0;
