@@ -27,8 +27,8 @@ A number is decimal digits, and leading zeros pass; a numerator may have a minus
 whose first byte is #, gets no answer; any other that is not of the form, and any of more than 16,384 bytes without its end,
 gets `refused line`.
 
-    tests/desk.py                       checks this reading on the rules' own examples and on random sessions
-    tests/desk.py --make SEED COUNT     writes a random session of that many lines
+    tests/desk.py                       checks this reading on the rules' own examples and on random sequences
+    tests/desk.py --make SEED COUNT     writes a random sequence of that many lines
     tests/desk.py --answer              writes what the program must print for standard input"""
 import random
 import re
@@ -169,7 +169,7 @@ def lines(text):
     return "".join(line + "\n" for given in split(text) for line in said(desk, given)).encode()
 
 
-# ---- random sessions
+# ---- random sequences
 MALFORMED = [
     b"post", b"post /", b"post / 4", b"post 4", b"post 4 3 7 8 6 9 5 4 4 5 5 5", b"post 4 3 7 8 / 6 9 5 / 4 4 5 5 5",
     b"post 4 3 7 8 6 9 5 / / 4 4 5 5 5", b"post 4 3 7 8 6 9 5 // 4 4 5 5 5", b"post 4 3 7 8 6 9 5/ 4 4 5 5 5",
@@ -403,7 +403,7 @@ class Maker:
 
 
 def made(seed, count):
-    """A session of so many lines; the last may lack its end."""
+    """A sequence of so many lines; the last may lack its end."""
     maker = Maker(seed)
     text = b"".join(maker.next() for _ in range(count))
     return text[:-1] if maker.coin(0.5) else text
@@ -504,8 +504,8 @@ def heard(given):
     return [said(desk, line) for line in given], desk.state()
 
 
-def check_session(seed, count, seen):
-    """What holds after any calls, tried on a random session; counts what it shows."""
+def check_sequence(seed, count, seen):
+    """What holds after any calls, tried on a random sequence; counts what it shows."""
     given, desk, calls = split(made(seed, count)), Desk(), []
     for line in given:
         before, answer = desk.state(), said(desk, line)
@@ -539,12 +539,12 @@ def check_session(seed, count, seen):
         assert all(rest[k] == answers[k] for k in left if k not in own)
 
 
-def check_sessions():
+def check_sequences():
     seen = Counter()
     for seed in range(60):
-        check_session(seed, 80, seen)
+        check_sequence(seed, 80, seen)
     for seed in range(60, 64):
-        check_session(seed, 1500, seen)
+        check_sequence(seed, 1500, seen)
     refusals = {"post": (4, 6, 7, 8, 9, 10, 16, 26), "correct": (21, 24, 7, 26), "propose": (20, 21, 11, 12, 13, 14),
                 "withdraw": (20, 21), "report": (20, 21)}
     due = {(name, "refused %d" % number) for name, numbers in refusals.items() for number in numbers}
@@ -565,7 +565,7 @@ def main():
     check_story()
     check_examples()
     check_calls()
-    seen = check_sessions()
+    seen = check_sequences()
     print("; ".join("%s %s: %d" % (*key, seen[key]) for key in sorted(seen)))
     return 0
 

@@ -1,10 +1,10 @@
 #!/usr/bin/env python3
 """Calls on a desk as bytes (RULES, Two benches), by the plain reading of desk.py, and the program `desk_calls` held to it. The calls are those
-of random sessions of desk.py, each from an empty desk, as far as their numbers fit the bytes of a call.
+of random sequences of desk.py, each from an empty desk, as far as their numbers fit the bytes of a call.
 
     tests/desk_calls.py                 writes crates/desk_calls/stdin and crates/desk_calls/stdout
     tests/desk_calls.py --check         says whether they are what this script writes
-    tests/desk_calls.py --drive WORDS   runs the program, given by its words, on random sessions of 20,000 calls and more, and compares what it
+    tests/desk_calls.py --drive WORDS   runs the program, given by its words, on random sequences of 20,000 calls and more, and compares what it
                                         prints"""
 import os
 import random
@@ -58,8 +58,8 @@ def bytes_of(name, given, room):
     return None
 
 
-class Sessions:
-    """Sessions one behind the other: their bytes, what the program prints, and how often each answer was given to each kind of call."""
+class Sequences:
+    """Sequences of calls, one behind the other: their bytes, what the program prints, and how often each answer was given to each kind of call."""
 
     def __init__(self):
         self.calls, self.printed, self.seen, self.count = bytearray(), [], Counter(), 0
@@ -101,7 +101,7 @@ class Sessions:
         self.call("report", (1,), 5)
         assert self.printed[0] == "refused 21" and self.printed[-1] == "refused 21" and "refused 15" in self.printed
 
-    def session(self, seed, count):
+    def sequence(self, seed, count):
         rng = random.Random(seed)
         self.start()
         for line in desk.split(desk.made(seed, count)):
@@ -118,11 +118,11 @@ class Sessions:
 
 
 def stored():
-    """The story, and some hundred sessions, as far as there is room."""
-    made, seed = Sessions(), 0
+    """The story, and some hundred sequences, as far as there is room."""
+    made, seed = Sequences(), 0
     made.story()
     while seed < 240 and len(made.calls) < MOST_BYTES - 60000:
-        made.session(seed, 24)
+        made.sequence(seed, 24)
         seed += 1
     assert seed >= 100 and len(made.calls) <= MOST_BYTES, (seed, len(made.calls))
     due = {"post": (4, 6, 7, 8, 9, 10, 16, 26), "correct": (7, 21, 24, 26), "propose": (11, 12, 13, 14, 20, 21), "withdraw": (20, 21), "report": (15, 20, 21)}
@@ -142,13 +142,13 @@ def check(path, data):
 def drive(words):
     seed, count = 10000, 0
     while count < 20000:
-        made = Sessions()
+        made = Sequences()
         while len(made.calls) < MOST_BYTES // 2:
-            made.session(seed, 400)
+            made.sequence(seed, 400)
             seed += 1
         done = subprocess.run(words, input=bytes(made.calls), stdout=subprocess.PIPE, check=True)
         if len(made.calls) > MOST_BYTES or done.stdout != made.out():
-            sys.exit("sessions up to %d: the program prints something else" % seed)
+            sys.exit("sequences up to %d: the program prints something else" % seed)
         count += made.count
     print("%d calls on desks answered as they must be" % count)
 
@@ -164,7 +164,7 @@ def main():
         else:
             with open(path, "wb") as file:
                 file.write(data)
-    print("%d sessions, %d calls, %d bytes" % (seed, made.count, len(made.calls)))
+    print("%d sequences, %d calls, %d bytes" % (seed, made.count, len(made.calls)))
 
 
 if __name__ == "__main__":
