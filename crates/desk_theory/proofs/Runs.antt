@@ -158,6 +158,14 @@ stale-effect d (report x n) h b size e = absurd (true≢false (sym h))
 pub stale : (d : Desk) (c : Call) → posts c ≡ true → answer d c ≡ pass → (b size : ℕ) → benchOut b ≡ false → answer (step d c) (report b size) ≡ fault 21 Nowhere
 stale d c h e b size g = ap (λ (x : Desk). answer x (report b size)) (on-pass (answer d c) (effect d c) d e) ∙ stale-effect d c h b size g
 
+-- ---- 20 comes first
+pub no-bench : (d : Desk) (c : Call) → posts c ≡ false → benchOut (benchOf c) ≡ true → answer d c ≡ fault 20 Nowhere
+no-bench d (propose x D ns) h e = rw e
+no-bench d (withdraw x) h e = rw e
+no-bench d (report x size) h e = rw e
+no-bench d (post N ds ps) h e = absurd (true≢false h)
+no-bench d (correct c) h e = absurd (true≢false h)
+
 -- ---- a call that is refused, or that can change nothing, leaves the desk
 idle-effect : (d : Desk) (c : Call) → changes c ≡ false → effect d c ≡ d
 idle-effect d (report x size) h = refl
@@ -207,6 +215,7 @@ pub benches : Benches
 benches = record {
   stands = λ cs. run-sound cs empty (record { posting = tt; tables = λ _. tt });
   stale = stale;
+  no-bench = no-bench;
   refused = refused-same;
   apart = λ b cs ds w. apart b w empty empty (alike-self b empty);
   replay = λ cs. replay cs empty;

@@ -10,7 +10,7 @@ use Rattle.verdict.specs.declared.Place.the-variants.{Nowhere}
 use Rattle.verdict.specs.declared.Rule.the-variants.{Plain}
 use Rattle.fit_theory.specs.Tests.{postedTests}
 use Rattle.fit_theory.specs.Stands.{Posted, Stands, Least}
-use Rattle.desk_theory.specs.Desk.{Posting, nothing, matrixTree, Table, none, lengths, Desk, Call, post, correct, propose, withdraw, report, empty, benchOut, step, run, answer, told, Said}
+use Rattle.desk_theory.specs.Desk.{Posting, nothing, matrixTree, Table, none, lengths, Desk, Call, post, correct, propose, withdraw, report, empty, benchOut, benchOf, step, run, answer, told, Said}
 
 -- a table stands on what is posted, and no other lengths fit it better
 abbrev pub StandsOn : Posting → Table → Type 0
@@ -76,6 +76,8 @@ pub record Benches : Type 1 where
   pub stands : (cs : List Call) → Sound (run empty cs)
   -- new distances posted, the old table asked for: 21, whichever bench asks, with whatever buffer
   pub stale : (d : Desk) (c : Call) → posts c ≡ true → answer d c ≡ pass → (b size : ℕ) → benchOut b ≡ false → answer (step d c) (report b size) ≡ fault 21 Nowhere
+  -- a bench that is neither 1 nor 2 is 20, whatever else is wrong
+  pub no-bench : (d : Desk) (c : Call) → posts c ≡ false → benchOut (benchOf c) ≡ true → answer d c ≡ fault 20 Nowhere
   -- a refused call changes nothing
   pub refused : (d : Desk) (c : Call) (k : ℕ) (p : Place) → answer d c ≡ fault k p → step d c ≡ d
   -- taking calls of one bench out of the list changes nothing of what anyone else is told
