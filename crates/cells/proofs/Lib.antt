@@ -1,0 +1,3 @@
+pub mod Fronts
+pub mod Units
+pub mod Rows
