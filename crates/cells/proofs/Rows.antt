@@ -3,11 +3,11 @@ use mathlib.Core.Path.{_≡_, refl, sym, _∙_, ap, ap₂}
 use mathlib.Core.Bool.{Bool, true, false, _||_, _&&_}
 use mathlib.Core.List.{List}
 use mathlib.Core.Logic.{_≢_}
-use Prim.Native.Nat.{ℕ, suc, _+_, _≤_, _<_}
+use Prim.Native.Nat.{ℕ, _+_, _≤_, _<_}
 use native.Mathlib.Decide.{ℕ-discrete}
 use native.Mathlib.Numerals.{add-one}
 use native.Mathlib.Omega.{arith}
-use borrow.Author.Tests.{eq-eqb, ne-eqb, eqb-true, eqb-false}
+use borrow.Author.Tests.{eq-eqb, ne-eqb, eqb-false}
 use lib.Dec.{eqb, ltb}
 use lib.ListN.{length, getD, drop, set, length-set}
 use lib.Seq.{drop-drop, getD-set-same, getD-set-other}
@@ -15,7 +15,7 @@ use Rattle.exact.proofs.Decide.{by-cases}
 use Rattle.verdict.specs.Table.{some}
 use Rattle.verdict.proofs.Table.{some-yes, some-no}
 use Rattle.cells.specs.Cell.{gap, cellSize, cellOut, cellEntry}
-use Rattle.cells.specs.Row.{front, rest, cellBad, Cells, Read}
+use Rattle.cells.specs.Row.{front, rest, cellBad, Read}
 use Rattle.cells.specs.declared.RowRead.{RowRead}
 use Rattle.cells.specs.declared.Cell.{Cell}
 

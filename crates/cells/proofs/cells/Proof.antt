@@ -1,7 +1,6 @@
 -- A turn reads one cell: the gap before it, its bytes, what it is. The first that is not of the form ends the row.
 use mathlib.Core.Path.{sym, _∙_}
 use Prim.Native.Nat.{_-_}
-use native.Mathlib.Omega.{arith}
 use borrow.Author.Needs.{needs}
 use Rattle.cells.proofs.Rows.{RowAt, row-start, row-touches, row-none, row-turn, row-end, row-bad}
 use Rattle.cells.proofs.cells.Statement.{statement}

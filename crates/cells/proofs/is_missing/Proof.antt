@@ -2,7 +2,6 @@
 use Prim.Native.Nat.{ℕ}
 use lib.Dec.{eqb}
 use mathlib.Core.Path.{sym, _∙_, ap}
-use native.Mathlib.Omega.{arith}
 use Rattle.cells.proofs.Fronts.{missing-no, missing-is}
 use borrow.Author.Needs.{needs}
 use Rattle.cells.proofs.is_missing.Statement.{statement}

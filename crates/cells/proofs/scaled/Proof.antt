@@ -1,7 +1,6 @@
 -- A zero a turn; what is read, with the zeros that are left, is the whole number, both cut.
 use mathlib.Core.Path.{_≡_, refl}
 use Prim.Native.Nat.{_-_, _≤_}
-use native.Mathlib.Omega.{arith}
 use borrow.Author.Needs.{needs}
 use lib.ListN.{replicate}
 use Rattle.digits.specs.Digits.{most, atMost, numberFrom}

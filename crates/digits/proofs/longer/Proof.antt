@@ -1,8 +1,8 @@
 -- A number up to 10^15 with a digit behind it is below 2^64; it is cut where it is above 10^15.
-use mathlib.Core.Path.{_≡_, sym, _∙_, ap}
+use mathlib.Core.Path.{sym, _∙_, ap}
 use Prim.Native.Nat.{ℕ, _+_, _*_}
 use native.Mathlib.Omega.{arith}
-use Rattle.digits.specs.Digits.{digitOf, atMost}
+use Rattle.digits.specs.Digits.{atMost}
 use Rattle.digits.proofs.Reading.{digit-high, low-cut, high-cut}
 use borrow.Author.Needs.{needs}
 use Rattle.digits.proofs.longer.Statement.{statement}

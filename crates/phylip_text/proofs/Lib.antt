@@ -1,0 +1,4 @@
+pub mod Pieces
+pub mod Cells
+pub mod Rows
+pub mod RoundTrip
