@@ -2,19 +2,19 @@
 -- (`cut-seen`).
 use mathlib.Core.Path.{_≡_, refl, sym, _∙_, ap, ap₂}
 use mathlib.Core.Bool.{Bool, true, false, cond, _||_, true≢false}
-use mathlib.Core.List.{List, [], _∷_}
+use mathlib.Core.List.{List}
 use mathlib.Core.Logic.{_≢_}
-use Prim.Native.Nat.{ℕ, zero, suc, _+_, _-_, _*_, _≤_, _<_}
+use Prim.Native.Nat.{ℕ, suc, _+_, _-_, _*_, _≤_, _<_}
 use native.Mathlib.Decide.{decLt}
 use native.Mathlib.Omega.{arith}
 use borrow.Author.Tests.{eqb-true, eq-eqb, ne-eqb, lt-ltb}
 use lib.Dec.{eqb, ltb}
 use lib.ListN.{length, getD, take, drop, replicate}
-use lib.Seq.{slice, getD-drop, drop-drop, drop-nil, take-nil}
+use lib.Seq.{slice, getD-drop, drop-drop}
 use Rattle.exact.proofs.Decide.{by-cases}
 use Rattle.matrix.specs.Limits.{maxDistance, missing}
 use Rattle.digits.specs.Digits.{run, isDigit, digitOf, most, atMost, numberFrom}
-use Rattle.digits.proofs.Reading.{both-true, inside, low-cut, high-cut, cut-again}
+use Rattle.digits.proofs.Reading.{both-true, inside, low-cut, high-cut, cut-again, slice-is}
 use Rattle.cells.specs.Cell.{whole, pointed, part, places, isMissing, decimalSize, cellSize, unitsOf, unitsOut, decimalOut, decimalEntry, cellOut, cellEntry}
 use Rattle.cells.specs.declared.Cell.{Cell}
 
@@ -65,15 +65,6 @@ unfolding cellOut cellEntry
 cell-decimal l o x e p = (p .0 ∙ sym (ap (λ (q : Bool). cond q false (decimalOut l)) e), p .1 ∙ sym (ap (λ (q : Bool). cond q missing (decimalEntry l)) e))
 
 -- ---- the units
-drop-take : (f t : ℕ) (l : List ℕ) → drop f (take t l) ≡ take (t - f) (drop f l)
-drop-take zero t l = let q : t - 0 ≡ t = omega arith in rw q
-drop-take (suc f) zero l = let q : 0 - suc f ≡ 0 = omega arith in rw q (drop-nil (suc f))
-drop-take (suc f) (suc t) [] = sym (take-nil {A = ℕ} (suc t - suc f))
-drop-take (suc f) (suc t) (x ∷ xs) = let ih = drop-take f t xs in let q : suc t - suc f ≡ t - f = omega arith in rw q ih
-
-pub slice-is : (s : List ℕ) (f t : ℕ) → slice f t s ≡ take (t - f) (drop f s)
-slice-is s f t = drop-take f t s
-
 module _ (s : List ℕ) (at point : ℕ) (e : point ≡ at + run isDigit (drop at s)) where
   abbrev l : List ℕ
   l = drop at s

@@ -3,15 +3,15 @@
 use mathlib.Core.Path.{_≡_, refl, sym, _∙_, ap}
 use mathlib.Core.Bool.{Bool, true, false, cond, _&&_, true≢false}
 use mathlib.Core.List.{List, [], _∷_}
-use Prim.Native.Nat.{ℕ, suc, _+_, _-_, _≤_, _<_, _*_}
+use Prim.Native.Nat.{ℕ, zero, suc, _+_, _-_, _≤_, _<_, _*_}
 use native.Mathlib.Decide.{decLt}
 use native.Mathlib.Numerals.{add-one}
 use native.Mathlib.Omega.{arith}
 use borrow.Author.Tests.{leb-true, le-leb, lt-leb}
 use lib.Dec.{leb}
 use Rattle.exact.proofs.Decide.{by-cases}
-use lib.ListN.{length, getD, drop, drop-of-length-le, List·getD-eq-default}
-use lib.Seq.{drop-cons, slice, slice-cons, slice-empty}
+use lib.ListN.{length, getD, take, drop, drop-of-length-le, List·getD-eq-default}
+use lib.Seq.{drop-cons, drop-nil, take-nil, slice, slice-cons, slice-empty}
 use Rattle.digits.specs.Digits.{run, isDigit, digitOf, most, atMost, numberFrom}
 
 -- ---- runs: one that began at `at` has come to `end`
@@ -90,6 +90,16 @@ cut-alike (x ∷ xs) a b e = cut-alike xs (a * 10 + digitOf x) (b * 10 + digitOf
 
 pub cut-again : (l : List ℕ) (a : ℕ) → atMost (numberFrom (atMost a) l) ≡ atMost (numberFrom a l)
 cut-again l a = cut-alike l (atMost a) a (low-cut (atMost a) (cut-most a))
+
+-- ---- a part of a text, by where it begins and how long it is
+drop-take : (f t : ℕ) (l : List ℕ) → drop f (take t l) ≡ take (t - f) (drop f l)
+drop-take zero t l = let q : t - 0 ≡ t = omega arith in rw q
+drop-take (suc f) zero l = let q : 0 - suc f ≡ 0 = omega arith in rw q (drop-nil (suc f))
+drop-take (suc f) (suc t) [] = sym (take-nil {A = ℕ} (suc t - suc f))
+drop-take (suc f) (suc t) (x ∷ xs) = let ih = drop-take f t xs in let q : suc t - suc f ≡ t - f = omega arith in rw q ih
+
+pub slice-is : (s : List ℕ) (f t : ℕ) → slice f t s ≡ take (t - f) (drop f s)
+slice-is s f t = drop-take f t s
 
 -- ---- a number: its digits before k are read
 module _ (s : List ℕ) (a from to : ℕ) (h : to ≤ length s) where
