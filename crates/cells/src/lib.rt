@@ -166,7 +166,7 @@ pub struct RowRead {
 }
 
 // A row that is not of the form.
-fn bad_row() -> RowRead
+pub fn bad_row() -> RowRead
     ensures { λ r. ⌜ r .bad ≡ true ⌝ }
 {
     RowRead {

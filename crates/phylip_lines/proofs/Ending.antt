@@ -2,7 +2,7 @@
 use mathlib.Core.Path.{_≡_, refl, sym, _∙_, ap, ap₂}
 use mathlib.Core.Bool.{Bool, true, false, cond, not, _&&_}
 use mathlib.Core.List.{List}
-use Prim.Native.Nat.{ℕ, suc, _+_, _-_, _≤_, _<_}
+use Prim.Native.Nat.{ℕ, _+_, _-_, _≤_}
 use native.Mathlib.Decide.{ℕ-discrete}
 use native.Mathlib.Omega.{arith}
 use borrow.Author.Tests.{eq-eqb, ne-eqb, eqb-true}
@@ -14,8 +14,6 @@ use Rattle.digits.specs.Digits.{run, isDigit, atMost, numberFrom}
 use Rattle.digits.proofs.Reading.{both-true, inside, slice-is}
 use Rattle.phylip_text.specs.Form.{isBlank, past, lineEndSize, lineEnd, endBad, nextLine, countSize, countOf, behindCount}
 use Rattle.phylip_lines.specs.Lines.{EndRead, CountRead}
-use Rattle.phylip_lines.specs.declared.LineEnd.{LineEnd}
-use Rattle.phylip_lines.specs.declared.Count.{Count}
 
 -- a line end is in the text
 ends-within : (s : List ℕ) (k : ℕ) → k ≤ length s → k + lineEndSize (getD s k 0) (getD s (k + 1) 0) ≤ length s

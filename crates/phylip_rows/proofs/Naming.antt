@@ -1,6 +1,6 @@
 -- A name, byte by byte. A byte of a name is not 0, so all ten stand in the text.
 use mathlib.Core.Path.{_≡_, refl, sym, _∙_, ap}
-use mathlib.Core.Bool.{Bool, true, false, _||_, true≢false}
+use mathlib.Core.Bool.{true, false, true≢false}
 use mathlib.Core.List.{List}
 use Prim.Native.Nat.{ℕ, suc, _+_, _-_, _≤_, _<_}
 use native.Mathlib.Decide.{ℕ-discrete}
@@ -10,7 +10,6 @@ use lib.Dec.{ltb}
 use lib.ListN.{length, getD, drop, set, length-set}
 use lib.Seq.{getD-drop, getD-set-same, getD-set-other}
 use Rattle.exact.proofs.Decide.{by-cases}
-use Rattle.verdict.specs.Table.{some}
 use Rattle.verdict.proofs.Table.{some-yes, some-no, some-none}
 use Rattle.verdict.proofs.Answers.{or-none}
 use Rattle.digits.proofs.Reading.{inside}

@@ -1,12 +1,12 @@
 -- One row a turn: what is left behind it is where the next begins, and it changes nothing of the rows before it.
-use mathlib.Core.Path.{_≡_, refl, sym, _∙_, ap, ap₂, subst}
+use mathlib.Core.Path.{_≡_, refl, sym, _∙_, ap, ap₂}
 use mathlib.Core.Bool.{Bool, true, false, not, _||_, true≢false}
 use mathlib.Core.List.{List}
-use Prim.Native.Nat.{ℕ, zero, suc, _+_, _-_, _*_, _≤_, _<_}
+use Prim.Native.Nat.{ℕ, _+_, _-_, _*_, _≤_, _<_}
 use native.Mathlib.Decide.{ℕ-discrete}
 use native.Mathlib.Numerals.{add-one}
 use native.Mathlib.Omega.{arith}
-use borrow.Author.Tests.{eq-eqb, ne-eqb, not-false}
+use borrow.Author.Tests.{eq-eqb, ne-eqb}
 use lib.Dec.{eqb}
 use lib.ListN.{length, getD, drop, length-drop}
 use lib.Seq.{drop-drop}
@@ -21,7 +21,7 @@ use Rattle.cells.specs.declared.RowRead.{RowRead}
 use Rattle.phylip_text.specs.Form.{nameSize, nameBad, cellsOf, behindCells, endBad, nextLine, rowBad, rowText, rowsBad, cellAt, decimalsOut, entryAt}
 use Rattle.phylip_lines.specs.Lines.{EndRead}
 use Rattle.phylip_lines.specs.declared.LineEnd.{LineEnd}
-use Rattle.phylip_rows.specs.Rows.{NameRead, Row, RowIs, Rows, RowsRead}
+use Rattle.phylip_rows.specs.Rows.{NameRead, RowIs, RowsRead}
 
 or-left : (a b : Bool) → a ≡ true → (a || b) ≡ true
 or-left a b e = ap (λ (q : Bool). q || b) e

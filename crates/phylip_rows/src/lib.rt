@@ -3,7 +3,6 @@
 use cells::RowRead;
 use matrix::Matrix;
 ghost use mathlib.Core.Path.{_≡_};
-ghost use mathlib.Core.Bool.{true};
 ghost use Prim.Native.Nat.{_+_, _*_, _≤_};
 ghost use lib.ListN.{length};
 ghost use Rattle.matrix.specs.Limits.{maxStrains};
@@ -40,32 +39,21 @@ fn name(text: &[u8], at: usize, base: usize, names: &mut [u8]) -> bool
     false
 }
 
-// A row that is not of the form.
-fn bad_row() -> RowRead
-    ensures { λ r. ⌜ r .bad ≡ true ⌝ }
-{
-    RowRead {
-        bad: true,
-        end: 0,
-        out: false,
-    }
-}
-
 // The row at a place, which is row i of n: its name, its cells, its end.
 fn row(text: &[u8], at: usize, n: usize, i: usize, grid: &mut [u16], names: &mut [u8]) -> RowRead
     requires { ⌜ (at ≤ length (now text)) × (n ≤ maxStrains) × (maxStrains * i + n ≤ length (now grid)) × (nameSize * i + nameSize ≤ length (now names)) ⌝ }
     ensures { λ r. ⌜ RowIs (now (text .entry)) at n i (now (grid .entry)) (now (grid .exit)) (now (names .entry)) (now (names .exit)) r ⌝ }
 {
     if name(text, at, NAME * i, names) {
-        return bad_row();
+        return cells::bad_row();
     }
     let read = cells::cells(text, at + NAME, n, Matrix::MAX_STRAINS * i, grid);
     if read.bad {
-        return bad_row();
+        return cells::bad_row();
     }
     let ended = phylip_lines::line_end(text, read.end);
     if ended.bad {
-        return bad_row();
+        return cells::bad_row();
     }
     RowRead {
         bad: false,
@@ -85,7 +73,7 @@ pub fn rows(text: &[u8], at: usize, n: usize, grid: &mut [u16], names: &mut [u8]
     while i < n {
         let read = row(text, end, n, i, grid, names);
         if read.bad {
-            return bad_row();
+            return cells::bad_row();
         }
         out = cells::either(out, read.out);
         end = read.end;

@@ -1,67 +1,56 @@
+-- A byte a turn; the first that is in no name ends it.
+use mathlib.Core.Path.{sym, _∙_}
+use Prim.Native.Nat.{_-_}
+use native.Mathlib.Omega.{arith}
+use Rattle.phylip_rows.proofs.Naming.{NameAt, name-start, name-none, name-turn, name-end}
+use borrow.Author.Needs.{needs}
 use Rattle.phylip_rows.proofs.name.Statement.{statement}
 use Rattle.phylip_rows.proofs.name.Tie as tie
-use Rattle.phylip_rows.proofs.name.Reads as reads
-use Rattle.phylip_rows.proofs.name.Lts as lts
-use Rattle.digits.proofs.byte_at.Reads as byte-at-reads
-use Rattle.phylip_rows.proofs.name_out.Reads as name-out-reads
 
 abbrev Inv-loop : tie.InvT-loop
-Inv-loop text at base names₀ k₀ names k = ?
+Inv-loop text at base names₀ k₀ names k = NameAt text at base names₀ names k
 
 abbrev μ-loop : tie.MeasureT-loop
-μ-loop text at base names₀ k₀ names k = ?
+μ-loop text at base names₀ k₀ names k = 10 - k
 
--- src/lib.rt:32:5
 loop-holds : tie.Need-loop-holds Inv-loop μ-loop
-loop-holds c = ?
+loop-holds c = name-start _ _ _ _
 
--- src/lib.rt:33:42
 add-byte-at : tie.Need-add-byte-at Inv-loop μ-loop
-add-byte-at c = ?
+add-byte-at c = search needs
 
--- src/lib.rt:33:13
 byte-at-requires : tie.Need-byte-at-requires Inv-loop μ-loop
-byte-at-requires c κs = ?
+byte-at-requires c κs = search needs
 
--- src/lib.rt:34:12
 name-out-requires : tie.Need-name-out-requires Inv-loop μ-loop
-name-out-requires c κs = ?
+name-out-requires c κs = search needs
 
--- src/lib.rt:35:13
 same-length : tie.Need-same-length Inv-loop μ-loop
-same-length c = ?
+same-length c = c .before .before .before .before .loop .inv .size
 
--- src/lib.rt:35:13
 returns : tie.Need-returns Inv-loop μ-loop
-returns c = ?
+returns c = name-none _ _ _ _ (c .before .before .byte-at .result) (c .before .before .before .before .loop .inv) (c .before .before .byte-at .ensures) (c .before .before .before .loop-test .taken) (sym (c .before .name-out .ensures) ∙ c .if1 .taken)
 
--- src/lib.rt:37:15
 add-names : tie.Need-add-names Inv-loop μ-loop
-add-names c = ?
+add-names c = search needs
 
--- src/lib.rt:37:9
 slice-write-names : tie.Need-slice-write-names Inv-loop μ-loop
-slice-write-names c = ?
+slice-write-names c = search needs
 
--- src/lib.rt:38:9
 add-k : tie.Need-add-k Inv-loop μ-loop
-add-k c = ?
+add-k c = search needs
 
--- src/lib.rt:32:5
 loop-less : tie.Need-loop-less Inv-loop μ-loop
-loop-less c = ?
+loop-less c = search needs
 
--- src/lib.rt:32:5
 loop-again : tie.Need-loop-again Inv-loop μ-loop
-loop-again c = ?
+loop-again c = name-turn _ _ _ _ (c .before .before .byte-at .result) (c .before .before .before .before .loop .inv) (c .before .before .byte-at .ensures) (c .before .before .before .loop-test .taken) (omega arith) (sym (c .before .name-out .ensures) ∙ c .if1 .left)
 
--- src/lib.rt:27:1
 same-length-2 : tie.Need-same-length-2 Inv-loop μ-loop
-same-length-2 c = ?
+same-length-2 c = c .before .loop .inv .size
 
--- src/lib.rt:27:1
 returns-2 : tie.Need-returns-2 Inv-loop μ-loop
-returns-2 c = ?
+returns-2 c = name-end _ _ _ _ (c .loop-test .left) (c .before .loop .inv)
 
 pub name-spec : {M : Type 1} → statement M
 name-spec =
