@@ -1,4 +1,5 @@
 pub mod Pieces
+pub mod Sizes
 pub mod Cells
 pub mod Rows
 pub mod RoundTrip

@@ -7,9 +7,9 @@ use native.Mathlib.Decide.{decLt, ℕ-discrete}
 use native.Mathlib.Omega.{arith}
 use borrow.Author.Tests.{ltb-false, le-ltb, eq-eqb, ne-eqb, eqb-true, not-false}
 use lib.Dec.{eqb, ltb}
-use lib.ListN.{length, getD, take, drop, length-append, List·getD-eq-default}
+use lib.ListN.{length, getD, take, drop, List·getD-eq-default}
 use Rattle.exact.proofs.Decide.{by-cases}
-use Rattle.exact.proofs.Fill.{length-table, table-is}
+use Rattle.exact.proofs.Fill.{table-is}
 use Rattle.verdict.specs.Answer.{pass, test, _orElse_}
 use Rattle.verdict.specs.Table.{some}
 use Rattle.verdict.proofs.Table.{some-no, some-none}
@@ -19,14 +19,14 @@ use Rattle.matrix.specs.Place.{pairCount, pairPlace, pairAt, known}
 use Rattle.matrix.specs.Tests.{countOut, strainsOut, distanceOut, matrixTests}
 use Rattle.matrix.proofs.Places.{place-onto, stands-at, pair-place-up, pair-place-sym}
 use Rattle.writing.specs.Text.{decimal}
-use Rattle.writing.proofs.Decimals.{decimal-small, decimal-step, decimal-length}
+use Rattle.writing.proofs.Decimals.{decimal-small, decimal-step}
 use Rattle.digits.specs.Digits.{run, isDigit, numberFrom}
 use Rattle.cells.specs.Cell.{cellOut, cellEntry}
 use Rattle.cells.specs.Row.{cellText}
 use Rattle.phylip_text.specs.Form.{isBlank, past, nextLine, endBad, countSize, countOf, behindCount, nameOut, nameSize, cellsOf, rowText, cellAt, rowsOf, rowsBad, rowBad, decimalsOut, entryAt, halvesOut, distancesRead, namesRead}
 use Rattle.phylip_text.specs.Tests.{maxText, readTests, Reads, namesShort, nameByteOut, matterTests}
-use Rattle.phylip_text.specs.Text.{piecesFrom, pieces, cellWritten, valueAt, rowWritten, textOf}
-use Rattle.phylip_text.proofs.Pieces.{pieces-length}
+use Rattle.phylip_text.specs.Text.{piecesFrom, pieces, valueAt, rowWritten, textOf}
+use Rattle.phylip_text.proofs.Sizes.{text-length}
 use Rattle.phylip_text.proofs.Cells.{run-digit, run-stops, number-digit, number-none}
 use Rattle.phylip_text.proofs.Rows.{line-next, line-ended, rows-are, row-good, row-in, row-are, row-name}
 
@@ -176,21 +176,9 @@ module _ (N : ℕ) (ds names : List ℕ) (w : Writable N ds names) where
   rows-of : rowsOf text ≡ rows
   rows-of = ap nextLine (counted .behind-is) ∙ line-next rows
 
-  cell-long : (e : ℕ) → length (cellWritten e) ≤ 7
-  unfolding cellWritten
-  cell-long e = by-cases (ℕ-discrete e 65535) (λ h. rw (eq-eqb e 65535 h) (omega arith)) (λ h. rw (ne-eqb e 65535 h) (omega arith))
-
-  row-long : (i : ℕ) → length (rowWritten N ds names i) ≤ 459
-  unfolding rowWritten
-  row-long i = simp length-append (omega (arith, w .few, length-table nameSize (λ m. getD names (nameSize * i + m) 0), pieces-length 7 0 N (λ j. cellWritten (valueAt ds i j)) (λ j. cell-long (valueAt ds i j))))
-
-  pub text-length : length text ≤ 29397
-  unfolding textOf
-  text-length = simp length-append (omega (arith, w .few, decimal-length N, pieces-length 459 0 N (rowWritten N ds names) row-long))
-
   passes : readTests text (length ds) (length names) ≡ pass
   passes = rw (counted .count-is, rows-of)
-      (pass-orElse (pass-orElse (pass-test 17 (none-or (le-ltb maxText (length text) (omega (arith, text-length))) (counted .some-digits)))
+      (pass-orElse (pass-orElse (pass-test 17 (none-or (le-ltb maxText (length text) (omega (arith, text-length N ds names (w .few)))) (counted .some-digits)))
       (pass-orElse (pass-test 6 (none-or (le-ltb N minStrains (w .three)) (le-ltb maxStrains N (w .few))))
       (pass-orElse (pass-test 17 (none-or (ap endBad (counted .behind-is) ∙ line-ended rows) rows-good))
       (pass-orElse (pass-test 18 rows-in) (pass-test 19 halves-good)))))

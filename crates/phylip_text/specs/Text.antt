@@ -40,3 +40,10 @@ rowWritten N ds names i = nameWritten names i ++ (pieces N (λ j. cellWritten (v
 -- the whole text
 unfoldable pub textOf : ℕ → List ℕ → List ℕ → List ℕ
 textOf N ds names = decimal N ++ (10 ∷ pieces N (rowWritten N ds names))
+
+-- the most bytes of a row, of 64 cells of 7 bytes; and of a text, with a count of at most 20 digits
+abbrev pub widestRow : ℕ
+widestRow = 459
+
+abbrev pub widestText : ℕ
+widestText = 29397
