@@ -1,4 +1,4 @@
-/* The verdict on a sheet, the direct fit of a resolved tree, and the prints of sheets, for programs in C and C++. Every
+/* The verdict on a sheet, the direct fit of a resolved tree, the prints of sheets, and PHYLIP's square matrices, for programs in C and C++. Every
  * function is proved: it answers whatever it is lent, and reads and writes nothing outside that. Link with libsheet.a
  * for the verdict, libdirect_fit.a for the fit, libpages.a for the prints; where several are wanted, libpages.a first. */
 #ifndef VAMUTHEXA_H
@@ -32,6 +32,9 @@ enum vamuthexa_number {
     VAMUTHEXA_REMAINDERS = 14,    /* some edge's sum of remainders is not zero: not the fit */
     VAMUTHEXA_BUFFER = 15,        /* a lent result buffer not of the exact length; never for a sheet */
     VAMUTHEXA_PAST_ROOT = 16,     /* a parent above V-1; of 9 and 16 the one at the lowest vertex */
+    VAMUTHEXA_TEXT = 17,          /* a text too long, without a count or not of its form; a name byte outside 32 to 126 */
+    VAMUTHEXA_DECIMAL = 18,       /* in a text, a decimal above 5.0000 or with more than four places */
+    VAMUTHEXA_HALVES = 19,        /* in a text, the halves differ or the diagonal is not zero */
     VAMUTHEXA_NEGATIVE = 22,      /* a negative numerator; only where no length may be negative */
     VAMUTHEXA_ZERO_EDGE = 23,     /* likewise, an edge of length zero whose sum is positive: a longer one would fit better */
     VAMUTHEXA_UNRESOLVED = 25,    /* some inner vertex not of degree three; never for a sheet with lengths */
@@ -71,6 +74,24 @@ size_t unfitted_print(const uint8_t *sheet, size_t length, uint8_t *text, size_t
 uint32_t resolved_lengths(uint32_t n, const uint16_t *distances, size_t distance_count, const uint8_t *parents,
                           size_t parent_count, int64_t *numerators, size_t numerator_count, uint32_t *denominators,
                           size_t denominator_count, int64_t *rounded, size_t rounded_count);
+
+/* The most bytes of a square matrix in PHYLIP's form, and how many each buffer that one is written to must have. */
+enum { VAMUTHEXA_TEXT_SIZE = 65536 };
+
+/* The square matrix of PHYLIP in the `size` bytes at `text`: its distances go to `distances` in the order above, one unit being 0.0001
+ * and VAMUTHEXA_MISSING standing for -1, its names to `names`, ten bytes a strain. The buffers must have exactly n(n-1)/2
+ * distances and 10n bytes for the n strains of the text. The number is 17, 6, 18, 19 or 15, or 0 where both buffers are filled;
+ * otherwise they are as they were. No buffer may overlap another. Link with libphylip_read.a. */
+uint32_t phylip_read(const uint8_t *text, size_t size, uint16_t *distances, size_t distance_count, uint8_t *names,
+                     size_t name_count);
+
+/* Writes the square matrix of n strains and their names to the front of `text`, which must have exactly VAMUTHEXA_TEXT_SIZE bytes:
+ * one line a row, LF at its end, four places. No zero follows the text and no byte behind it changes. The number is 4 (also where
+ * there are not ten name bytes a strain), 6, 7, 17 for a name byte outside 32 to 126, or 15, or 0 where the text is written and
+ * its length is in `length`; otherwise both are as they were. Reading the text gives the same distances and names. No buffer may
+ * overlap another. Link with libphylip_write.a. */
+uint32_t phylip_write(uint32_t n, const uint16_t *distances, size_t distance_count, const uint8_t *names,
+                      size_t name_count, uint8_t *text, size_t size, size_t *length);
 
 #ifdef __cplusplus
 }
