@@ -20,7 +20,8 @@ use Rattle.reporting.specs.Answers.{maxTreeLength}
 use Rattle.sheet.specs.declared.SheetFit.{SheetFit}
 use Rattle.sheet.specs.Reports.{SheetReport, Fitted}
 use Rattle.sheet.proofs.Laws.{refused-row, accepted-row, orElse-pass}
-use Rattle.planner.specs.Compared.{sameMatrix, comparedTests, lengthBeside, Chosen}
+use Rattle.comparison.specs.Matrices.{sameMatrix}
+use Rattle.planner.specs.Compared.{comparedTests, lengthBeside, Chosen}
 use Rattle.planner.specs.declared.Choice.{Choice}
 use Rattle.planner.specs.declared.Choice.the-variants.{Refused, First, Second}
 

@@ -1,22 +1,16 @@
 // A customer of the sheet room: of two sheets fitted to one matrix, which tree is shorter, and its third record as it lies in
 // the sheet. It is proved from the contracts of the rooms below and from the laws that they keep for customers.
-use records::Layout;
 use verdict::Place;
 use verdict::Reason;
 use verdict::Refusal;
 use verdict::Rule;
 use verdict::Verdict;
 ghost use mathlib.Core.Path.{_≡_};
-ghost use Prim.Native.Nat.{_+_, _*_, _≤_};
-ghost use lib.IntN.{pos, natAbs, _*ℤ_};
 ghost use lib.ListN.{length};
-ghost use lib.Signed.{ltZ};
 ghost use Rattle.verdict.specs.Answer.{pass};
-ghost use Rattle.lengths.specs.Limits.{maxDenominator};
-ghost use Rattle.reporting.specs.Answers.{maxTreeLength};
-ghost use Rattle.records.specs.Form.{bodyAt, startOf};
+ghost use Rattle.records.specs.Form.{startOf};
 ghost use Rattle.reading.specs.Tests.{sheetTests};
-ghost use Rattle.planner.specs.Compared.{SameRows, sameMatrix, Chosen};
+ghost use Rattle.planner.specs.Compared.{Chosen};
 ghost use Rattle.planner.specs.Part.{Part, Handed, Shorter};
 
 // Which of two sheets has the shorter tree, or why they are not compared.
@@ -24,53 +18,6 @@ pub enum Choice {
     Refused(Refusal),
     First,
     Second,
-}
-
-// Whether a over d is less than b over e, exactly. The products can pass 2^63 and not 2^64.
-fn less(a: i64, d: u32, b: i64, e: u32) -> bool
-    requires { ⌜ (natAbs a ≤ maxTreeLength) × (natAbs b ≤ maxTreeLength) × (d ≤ maxDenominator) × (1 ≤ e) × (e ≤ maxDenominator) ⌝ }
-    ensures { λ r. ⌜ r ≡ ltZ (a *ℤ pos e) (b *ℤ pos d) ⌝ }
-{
-    let left = arithmetic::magnitude(a) * e as u64;
-    let right = arithmetic::magnitude(b) * d as u64;
-    if a < 0 {
-        if b < 0 {
-            return right < left;
-        }
-        return true;
-    }
-    if b < 0 {
-        return false;
-    }
-    left < right
-}
-
-// Whether the first so many distances of two sheets are the same, row by row.
-fn same_rows(s: &[u8], t: &[u8], pairs: usize) -> bool
-    requires { ⌜ (bodyAt 0 + 2 + 2 * pairs ≤ length (now s)) × (bodyAt 0 + 2 + 2 * pairs ≤ length (now t)) ⌝ }
-    ensures { λ r. ⌜ SameRows (now (s .entry)) (now (t .entry)) pairs r ⌝ }
-{
-    let mut k = 0;
-    while k < pairs {
-        let at = Layout::HEAD + 2 + 2 * k;
-        if endian::u16_at(s, at) != endian::u16_at(t, at) {
-            return false;
-        }
-        k += 1;
-    }
-    true
-}
-
-// Whether two accepted sheets have one matrix.
-fn same_matrix(s: &[u8], t: &[u8]) -> bool
-    requires { ⌜ (sheetTests Rule.Plain (now s) ≡ pass) × (sheetTests Rule.Plain (now t) ≡ pass) ⌝ }
-    ensures { λ r. ⌜ r ≡ sameMatrix (now (s .entry)) (now (t .entry)) ⌝ }
-{
-    let n = endian::u16_at(s, Layout::HEAD);
-    if endian::u16_at(t, Layout::HEAD) != n {
-        return false;
-    }
-    same_rows(s, t, matrix::pair_count(n as u32) as usize)
 }
 
 // The sheet of the shorter tree, the first on a tie; the first sheet's refusal, then the second's, then 27.
@@ -89,13 +36,13 @@ pub fn choose(s: &[u8], t: &[u8]) -> Choice
     if let Verdict::Refused(refusal) = of_second {
         return Choice::Refused(refusal);
     }
-    if !same_matrix(s, t) {
+    if !comparison::same_matrix(s, t) {
         return Choice::Refused(Refusal {
             reason: Reason::Matrices,
             place: Place::Nowhere,
         });
     }
-    if less(b.length, b.denominator, a.length, a.denominator) {
+    if comparison::less(b.length, b.denominator, a.length, a.denominator) {
         return Choice::Second;
     }
     Choice::First

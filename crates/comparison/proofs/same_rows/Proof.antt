@@ -5,9 +5,9 @@ use native.Mathlib.Omega.{arith}
 use borrow.Author.Count.{below-none, below-more}
 use borrow.Author.Needs.{needs}
 use Rattle.reading.specs.Holds.{rowAt}
-use Rattle.planner.proofs.Matrices.{rows-agree, row-differs}
-use Rattle.planner.proofs.same_rows.Statement.{statement}
-use Rattle.planner.proofs.same_rows.Tie as tie
+use Rattle.comparison.proofs.Matrices.{rows-agree, row-differs}
+use Rattle.comparison.proofs.same_rows.Statement.{statement}
+use Rattle.comparison.proofs.same_rows.Tie as tie
 
 abbrev Inv-loop : tie.InvT-loop
 Inv-loop s t pairs k₀ k = (k ≤ pairs) × ((i : ℕ) → i < k → rowAt s i ≡ rowAt t i)

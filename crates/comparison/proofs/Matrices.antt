@@ -15,7 +15,7 @@ use Rattle.records.specs.Form.{maxSheet, bodyAt, sizeAt, endAt, headCut, bodyCu
 use Rattle.reading.specs.Holds.{strainsOf, rowAt, distancesOf}
 use Rattle.reading.specs.Tests.{sheetTests}
 use Rattle.sheet.proofs.Laws.{same-matrix, same-rows, orElse-pass, testAt-pass, sheet-form}
-use Rattle.planner.specs.Compared.{same, sameMatrix, SameRows}
+use Rattle.comparison.specs.Matrices.{same, sameMatrix, SameRows}
 
 -- ---- lists with the same entries
 pub same-self : (xs : List ℕ) → same xs xs ≡ true

@@ -4,9 +4,9 @@ use Prim.Native.Nat.{ℕ}
 use native.Mathlib.Omega.{arith}
 use borrow.Author.Needs.{needs}
 use Rattle.matrix.specs.Place.{pairCount}
-use Rattle.planner.proofs.Matrices.{rows-there, other-strains, by-rows}
-use Rattle.planner.proofs.same_matrix.Statement.{statement}
-use Rattle.planner.proofs.same_matrix.Tie as tie
+use Rattle.comparison.proofs.Matrices.{rows-there, other-strains, by-rows}
+use Rattle.comparison.proofs.same_matrix.Statement.{statement}
+use Rattle.comparison.proofs.same_matrix.Tie as tie
 
 u16-at-requires : tie.Need-u16-at-requires
 u16-at-requires c κs = omega (arith, rows-there (c .before .before .args .s .now) (c .before .before .pre .0))

@@ -10,9 +10,9 @@ use mir.Facts.{toZ-ofZ}
 use borrow.Author.Needs.{needs}
 use Rattle.lengths.specs.Limits.{maxDenominator}
 use Rattle.reporting.specs.Answers.{maxTreeLength}
-use Rattle.planner.proofs.Cross.{both-negative, first-negative, second-negative, none-negative}
-use Rattle.planner.proofs.less.Statement.{statement}
-use Rattle.planner.proofs.less.Tie as tie
+use Rattle.comparison.proofs.Cross.{both-negative, first-negative, second-negative, none-negative}
+use Rattle.comparison.proofs.less.Statement.{statement}
+use Rattle.comparison.proofs.less.Tie as tie
 
 product : (m d : ℕ) → m ≤ maxTreeLength → d ≤ maxDenominator → m * d < 2 ^ 64
 product m d h k = omega (arith, mul-le-mul {n₁ = m} {m₁ = d} {n₂ = maxTreeLength} {m₂ = maxDenominator} h k)
