@@ -1,2 +1,3 @@
 pub mod Cross
 pub mod Matrices
+pub mod Measuring

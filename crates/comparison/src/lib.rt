@@ -1,18 +1,40 @@
 // Two sheets beside each other: whose tree length is less, exactly, and whether they have one matrix. Proved from the contracts
 // of the rooms below and from the laws that they keep for customers.
 use records::Layout;
+use verdict::Rule;
+use verdict::Verdict;
 ghost use mathlib.Core.Path.{_≡_};
 ghost use Prim.Native.Nat.{_+_, _*_, _≤_};
 ghost use lib.IntN.{pos, natAbs, _*ℤ_};
 ghost use lib.ListN.{length};
 ghost use lib.Signed.{ltZ};
 ghost use Rattle.verdict.specs.Answer.{pass};
-ghost use Rattle.verdict.specs.declared.Rule.the-variants.{Plain};
 ghost use Rattle.lengths.specs.Limits.{maxDenominator};
 ghost use Rattle.reporting.specs.Answers.{maxTreeLength};
 ghost use Rattle.records.specs.Form.{bodyAt};
 ghost use Rattle.reading.specs.Tests.{sheetTests};
+ghost use Rattle.comparison.specs.Measured.{Measured};
 ghost use Rattle.comparison.specs.Matrices.{SameRows, sameMatrix};
+
+// The answer to a sheet, and its tree length as a numerator over a denominator: zeros where it is refused.
+pub struct TreeLength {
+    pub verdict: Verdict,
+    pub numerator: i64,
+    pub denominator: u32,
+}
+
+pub fn tree_length(s: &[u8]) -> TreeLength
+    ensures { λ r. ⌜ Measured (now (s .entry)) r ⌝ }
+{
+    let fit = sheet::sheet_report(Rule::Plain, s);
+    let report = fit.report;
+    let answer = report.verdict;
+    TreeLength {
+        verdict: answer,
+        numerator: report.length,
+        denominator: report.denominator,
+    }
+}
 
 // Whether a over d is less than b over e, exactly. The products can pass 2^63 and not 2^64.
 pub fn less(a: i64, d: u32, b: i64, e: u32) -> bool
@@ -51,7 +73,7 @@ fn same_rows(s: &[u8], t: &[u8], pairs: usize) -> bool
 
 // Whether two accepted sheets have one matrix.
 pub fn same_matrix(s: &[u8], t: &[u8]) -> bool
-    requires { ⌜ (sheetTests Plain (now s) ≡ pass) × (sheetTests Plain (now t) ≡ pass) ⌝ }
+    requires { ⌜ (sheetTests Rule.Plain (now s) ≡ pass) × (sheetTests Rule.Plain (now t) ≡ pass) ⌝ }
     ensures { λ r. ⌜ r ≡ sameMatrix (now (s .entry)) (now (t .entry)) ⌝ }
 {
     let n = endian::u16_at(s, Layout::HEAD);

@@ -24,14 +24,12 @@ pub enum Choice {
 pub fn choose(s: &[u8], t: &[u8]) -> Choice
     ensures { λ r. ⌜ Chosen (now (s .entry)) (now (t .entry)) r ⌝ }
 {
-    let first = sheet::sheet_report(Rule::Plain, s);
-    let a = first.report;
+    let a = comparison::tree_length(s);
     let of_first = a.verdict;
     if let Verdict::Refused(refusal) = of_first {
         return Choice::Refused(refusal);
     }
-    let second = sheet::sheet_report(Rule::Plain, t);
-    let b = second.report;
+    let b = comparison::tree_length(t);
     let of_second = b.verdict;
     if let Verdict::Refused(refusal) = of_second {
         return Choice::Refused(refusal);
@@ -42,7 +40,7 @@ pub fn choose(s: &[u8], t: &[u8]) -> Choice
             place: Place::Nowhere,
         });
     }
-    if comparison::less(b.length, b.denominator, a.length, a.denominator) {
+    if comparison::less(b.numerator, b.denominator, a.numerator, a.denominator) {
         return Choice::Second;
     }
     Choice::First

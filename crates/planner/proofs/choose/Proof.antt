@@ -1,88 +1,88 @@
--- Each answer by the reports of the two sheets, told by the branches that led there.
+-- Each answer by the tree lengths of the two sheets, told by the branches that led there.
 use mathlib.Core.Path.{_≡_, sym, _∙_, ap}
 use native.Mathlib.Omega.{arith}
 use borrow.Author.Needs.{needs}
 use borrow.Author.Tests.{not-true, not-false}
 use lib.IntN.{natAbs}
 use Rattle.sheet.proofs.Laws.{back}
-use Rattle.planner.proofs.Choosing.{accepts, ranged, first-refused, second-refused, other-matrix, second-shorter, first-shorter}
+use Rattle.planner.proofs.Choosing.{accepts, first-refused, second-refused, other-matrix, second-shorter, first-shorter}
 use Rattle.planner.proofs.choose.Statement.{statement}
 use Rattle.planner.proofs.choose.Tie as tie
 
-sheet-report-requires : tie.Need-sheet-report-requires
-sheet-report-requires c κs = search needs
+tree-length-requires : tie.Need-tree-length-requires
+tree-length-requires c κs = search needs
 
 enum-known-of-first : tie.Need-enum-known-of-first
 enum-known-of-first c = search needs
 
 returns : tie.Need-returns
-returns c = let b = c .before .before .before .before in
-    first-refused _ (c .before .before .before .before .before .before .before .args .t .now) (b .sheet-report .result) (b .sheet-report .ensures) (c .before .of-first .given .0 .0) (c .before .of-first .given .1)
+returns c = let b = c .before .before .before in
+    first-refused _ (c .before .before .before .before .before .before .args .t .now) (b .tree-length .result) (b .tree-length .ensures) (c .before .of-first .given .0 .0) (c .before .of-first .given .1)
 
 enum-told : tie.Need-enum-told
 enum-told c = search needs
 
-sheet-report-requires-2 : tie.Need-sheet-report-requires-2
-sheet-report-requires-2 c κs = search needs
+tree-length-requires-2 : tie.Need-tree-length-requires-2
+tree-length-requires-2 c κs = search needs
 
 enum-known-of-second : tie.Need-enum-known-of-second
 enum-known-of-second c = search needs
 
 returns-2 : tie.Need-returns-2
-returns-2 c = let b = c .before .before .before .before in let a = b .before .before .before .before in
-    second-refused _ _ (a .sheet-report .result) (a .sheet-report .ensures) (b .sheet-report2 .result) (b .sheet-report2 .ensures) (b .before .enum-told .given .1) (c .before .of-second .given .0 .0) (c .before .of-second .given .1)
+returns-2 c = let b = c .before .before .before in let a = b .before .before .before in
+    second-refused _ _ (a .tree-length .result) (a .tree-length .ensures) (b .tree-length2 .result) (b .tree-length2 .ensures) (b .before .enum-told .given .1) (c .before .of-second .given .0 .0) (c .before .of-second .given .1)
 
 enum-told-2 : tie.Need-enum-told-2
 enum-told-2 c = search needs
 
 same-matrix-requires : tie.Need-same-matrix-requires
-same-matrix-requires c κs = let b = c .before .before .before in let a = b .before .before .before .before in
-    (accepts _ (a .sheet-report .result) (a .sheet-report .ensures) (b .before .enum-told .given .1), accepts _ (b .sheet-report2 .result) (b .sheet-report2 .ensures) (c .enum-told2 .given .1))
+same-matrix-requires c κs = let b = c .before .before in let a = b .before .before .before in
+    (accepts _ (a .tree-length .result) (a .tree-length .ensures) (b .before .enum-told .given .1), accepts _ (b .tree-length2 .result) (b .tree-length2 .ensures) (c .enum-told2 .given .1))
 
 returns-3 : tie.Need-returns-3
-returns-3 c = let told = c .before .before in let b = told .before .before .before in let a = b .before .before .before .before in
-    other-matrix _ _ (a .sheet-report .result) (a .sheet-report .ensures) (b .sheet-report2 .result) (b .sheet-report2 .ensures) (b .before .enum-told .given .1) (told .enum-told2 .given .1) (sym (not-true (c .before .same-matrix .result) (c .if1 .taken)) ∙ c .before .same-matrix .ensures)
+returns-3 c = let told = c .before .before in let b = told .before .before in let a = b .before .before .before in
+    other-matrix _ _ (a .tree-length .result) (a .tree-length .ensures) (b .tree-length2 .result) (b .tree-length2 .ensures) (b .before .enum-told .given .1) (told .enum-told2 .given .1) (sym (not-true (c .before .same-matrix .result) (c .if1 .taken)) ∙ c .before .same-matrix .ensures)
 
 less-requires : tie.Need-less-requires
-less-requires c κs = let told = c .before .before .before .before in let b = told .before .before .before in let a = b .before .before .before .before in
-    let x = ranged _ (a .sheet-report .result) (a .sheet-report .ensures) (b .before .enum-told .given .1) in
-    let y = ranged _ (b .sheet-report2 .result) (b .sheet-report2 .ensures) (told .enum-told2 .given .1) in
-    let u = ap natAbs (back (a .sheet-report .result .report .length) (omega (arith, x .length))) in
-    let v = ap natAbs (back (b .sheet-report2 .result .report .length) (omega (arith, y .length))) in (
-      omega (arith, x .length, y .length, u, v),
-      omega (arith, x .length, y .length, u, v),
+less-requires c κs = let told = c .before .before .before .before in let b = told .before .before in let a = b .before .before .before in
+    let x = a .tree-length .ensures .length (accepts _ (a .tree-length .result) (a .tree-length .ensures) (b .before .enum-told .given .1)) in
+    let y = b .tree-length2 .ensures .length (accepts _ (b .tree-length2 .result) (b .tree-length2 .ensures) (told .enum-told2 .given .1)) in
+    let u = back (a .tree-length .result .numerator) (omega (arith, x .near)) in
+    let v = back (b .tree-length2 .result .numerator) (omega (arith, y .near)) in (
+      omega (arith, x .near, y .near, ap natAbs u, ap natAbs v),
+      omega (arith, x .near, y .near, ap natAbs u, ap natAbs v),
       omega (arith, x .most, y .most),
       omega (arith, x .one, y .one),
       omega (arith, x .most, y .most),
     )
 
 returns-4 : tie.Need-returns-4
-returns-4 c = let told = c .before .before .before .before .before .before in let b = told .before .before .before in let a = b .before .before .before .before in
-    let x = a .sheet-report .result in let y = b .sheet-report2 .result in
-    let p = a .sheet-report .ensures in let q = b .sheet-report2 .ensures in
-    let e = b .before .enum-told .given .1 in let g = told .enum-told2 .given .1 in
-    let u = back (x .report .length) (omega (arith, ranged _ x p e .length)) in
-    let v = back (y .report .length) (omega (arith, ranged _ y q g .length)) in
-    second-shorter _ _ x p y q e g (sym (not-false (c .before .before .before .before .before .same-matrix .result) (c .before .before .before .before .if1 .left)) ∙ c .before .before .before .before .before .same-matrix .ensures) (sym (c .if2 .taken) ∙ (simp (u, v) at (c .before .less .ensures)))
+returns-4 c = let told = c .before .before .before .before .before .before in let b = told .before .before in let a = b .before .before .before in
+    let x = a .tree-length .ensures .length (accepts _ (a .tree-length .result) (a .tree-length .ensures) (b .before .enum-told .given .1)) in
+    let y = b .tree-length2 .ensures .length (accepts _ (b .tree-length2 .result) (b .tree-length2 .ensures) (told .enum-told2 .given .1)) in
+    let u = back (a .tree-length .result .numerator) (omega (arith, x .near)) in
+    let v = back (b .tree-length2 .result .numerator) (omega (arith, y .near)) in
+    second-shorter _ _ (a .tree-length .result) (a .tree-length .ensures) (b .tree-length2 .result) (b .tree-length2 .ensures) (b .before .enum-told .given .1) (told .enum-told2 .given .1)
+    (sym (not-false (c .before .before .before .before .before .same-matrix .result) (c .before .before .before .before .if1 .left)) ∙ c .before .before .before .before .before .same-matrix .ensures) (sym (c .if2 .taken) ∙ (simp (u, v) at (c .before .less .ensures)))
 
 returns-5 : tie.Need-returns-5
-returns-5 c = let told = c .before .before .before .before .before .before in let b = told .before .before .before in let a = b .before .before .before .before in
-    let x = a .sheet-report .result in let y = b .sheet-report2 .result in
-    let p = a .sheet-report .ensures in let q = b .sheet-report2 .ensures in
-    let e = b .before .enum-told .given .1 in let g = told .enum-told2 .given .1 in
-    let u = back (x .report .length) (omega (arith, ranged _ x p e .length)) in
-    let v = back (y .report .length) (omega (arith, ranged _ y q g .length)) in
-    first-shorter _ _ x p y q e g (sym (not-false (c .before .before .before .before .before .same-matrix .result) (c .before .before .before .before .if1 .left)) ∙ c .before .before .before .before .before .same-matrix .ensures) (sym (c .if2 .left) ∙ (simp (u, v) at (c .before .less .ensures)))
+returns-5 c = let told = c .before .before .before .before .before .before in let b = told .before .before in let a = b .before .before .before in
+    let x = a .tree-length .ensures .length (accepts _ (a .tree-length .result) (a .tree-length .ensures) (b .before .enum-told .given .1)) in
+    let y = b .tree-length2 .ensures .length (accepts _ (b .tree-length2 .result) (b .tree-length2 .ensures) (told .enum-told2 .given .1)) in
+    let u = back (a .tree-length .result .numerator) (omega (arith, x .near)) in
+    let v = back (b .tree-length2 .result .numerator) (omega (arith, y .near)) in
+    first-shorter _ _ (a .tree-length .result) (a .tree-length .ensures) (b .tree-length2 .result) (b .tree-length2 .ensures) (b .before .enum-told .given .1) (told .enum-told2 .given .1)
+    (sym (not-false (c .before .before .before .before .before .same-matrix .result) (c .before .before .before .before .if1 .left)) ∙ c .before .before .before .before .before .same-matrix .ensures) (sym (c .if2 .left) ∙ (simp (u, v) at (c .before .less .ensures)))
 
 pub choose-spec : {M : Type 1} → statement M
 choose-spec =
     tie.close
     (tie.spec
-    sheet-report-requires
+    tree-length-requires
     enum-known-of-first
     returns
     enum-told
-    sheet-report-requires-2
+    tree-length-requires-2
     enum-known-of-second
     returns-2
     enum-told-2
