@@ -54,7 +54,7 @@ module _ (s t : List ℕ) (x : TreeLength) (p : Measured s x) where
         all-pass : comparedTests s t ≡ pass
         all-pass = sym behind-second ∙ ap (λ (b : Bool). test 27 (not b)) (sym h)
 
-        -- the products of the reports are those of the sheets
+        -- the products of what was measured are those of the sheets
         abbrev second-less : Bool
         second-less = ltZ (y .numerator *ℤ pos (x .denominator)) (x .numerator *ℤ pos (y .denominator))
 
