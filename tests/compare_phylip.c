@@ -8,7 +8,7 @@
 
 #include "vamuthexa.h"
 
-enum { TEXT = 65536, LONGEST = 2 * TEXT, ROOM = 2 * TEXT };
+enum { TEXT = 65536, LONGEST = 2 * TEXT, ROOM = 8 * TEXT, MARGIN = 64 };
 
 static uint8_t text[LONGEST], again[TEXT + 1], before[TEXT + 1], names[ROOM], names_were[ROOM];
 static uint16_t distances[ROOM], distances_were[ROOM];
@@ -30,7 +30,7 @@ static int take(uint32_t *x) {
 }
 
 static void one(uint32_t size, uint32_t pairs, uint32_t name_bytes) {
-    size_t seen = (pairs + 64) * sizeof *distances, names_seen = name_bytes + 64;
+    size_t seen = (pairs + MARGIN) * sizeof *distances, names_seen = name_bytes + MARGIN;
     memset(distances, 0xa5, seen);
     memset(names, 0xa5, names_seen);
     memset(distances_were, 0xa5, seen);
@@ -97,7 +97,7 @@ int main(void) {
     uint32_t size, pairs, name_bytes;
     writer();
     while (take(&size) && take(&pairs) && take(&name_bytes)) {
-        if (size > LONGEST || pairs > ROOM || name_bytes > ROOM || fread(text, 1, size, stdin) != size) {
+        if (size > LONGEST || pairs > ROOM - MARGIN || name_bytes > ROOM - MARGIN || fread(text, 1, size, stdin) != size) {
             fprintf(stderr, "a drawn text that there is no room for\n");
             return 1;
         }

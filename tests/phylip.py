@@ -199,7 +199,8 @@ class Page:
         elif kind == 13:
             self.tail = rng.choice((b"\n", b"\r", b"\r\n", b" 0.1 ", b"x", b"\x0c"))
         else:
-            self.rooms[rng.randrange(2)] += rng.choice((-1, 1, 10, -self.rooms[0], 2 ** 16))
+            which = rng.randrange(2)
+            self.rooms[which] = max(0, self.rooms[which] + rng.choice((-1, 1, 10, -self.rooms[which], 2 ** 16)))
             return 15
         return None
 
