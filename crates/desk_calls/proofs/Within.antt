@@ -30,7 +30,3 @@ pub few : (d : Desk) (b : ℕ) (before after : List ℤ) (x : FitReport) → Hel
 few d b before after x h r = by-cases (passes (answer (deskOf d) (report b (length before))))
     (λ e. omega (arith, r .reported e .edges, length-take (d .posting .edges) (d .posting .parents), h .posting .few-edges))
     (λ n. omega (arith, r .silent n .edges))
-
--- whatever the text is
-pub next-within : (b c t : List ℕ) (next : ℕ) → Wrote b c 0 t next → next ≤ length c
-next-within b c t next w = omega (arith, w .place, ap length (w .buffer), length-append (take 0 b) (t ++ drop (0 + length t) b), length-append t (drop (0 + length t) b))

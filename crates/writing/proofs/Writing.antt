@@ -98,6 +98,10 @@ wrote-then {b} {c} {d} {at} {m} {k} {s} {t} room p q = record {
 pub wrote-length : {b c : List ℕ} {at m : ℕ} {s : List ℕ} → at + length s ≤ length b → Wrote b c at s m → length c ≡ length b
 wrote-length {b} {c} {at} {m} {s} room p = ap length (p .buffer) ∙ length-written b at s room
 
+-- at a buffer's front, whatever the buffer was: the text ends within what was left
+pub wrote-within : {b c : List ℕ} {m : ℕ} {s : List ℕ} → Wrote b c 0 s m → m ≤ length c
+wrote-within {b} {c} {m} {s} p = omega (arith, p .place, ap length (p .buffer), length-append (take 0 b) (s ++ drop (0 + length s) b), length-append s (drop (0 + length s) b))
+
 -- no other byte changes
 pub wrote-other : {b c : List ℕ} {at m : ℕ} {s : List ℕ} → at + length s ≤ length b → Wrote b c at s m
     → (k : ℕ) → (k < at) ⊎ (at + length s ≤ k) → getD c k 0 ≡ getD b k 0

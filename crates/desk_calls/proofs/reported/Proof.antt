@@ -4,7 +4,8 @@ use native.Mathlib.Omega.{arith}
 use lib.ListN.{length}
 use lib.Seq.{length-take-le}
 use Rattle.exact.proofs.Fill.{length-table}
-use Rattle.desk_calls.proofs.Within.{few, next-within}
+use Rattle.desk_calls.proofs.Within.{few}
+use Rattle.writing.proofs.Writing.{wrote-within}
 use borrow.Author.Needs.{needs}
 use Rattle.desk_calls.proofs.reported.Statement.{statement}
 use Rattle.desk_calls.proofs.reported.Tie as tie
@@ -38,7 +39,7 @@ slice-aggregate-put-out : tie.Need-slice-aggregate-put-out
 slice-aggregate-put-out c = search needs
 
 put-out-requires : tie.Need-put-out-requires
-put-out-requires c κs = next-within _ _ _ _ (c .before .before .report-text .ensures)
+put-out-requires c κs = wrote-within (c .before .before .report-text .ensures)
 
 returns : tie.Need-returns
 returns c = search needs
