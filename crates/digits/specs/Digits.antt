@@ -1,13 +1,24 @@
--- Digits at the front of a text, and the number that they are. A text is a list of bytes.
-use mathlib.Core.Bool.{Bool, cond, _&&_}
+-- Blanks and digits at the front of a text, and the number that digits are. A text is a list of bytes.
+use mathlib.Core.Bool.{Bool, true, false, cond, _&&_, _||_}
 use mathlib.Core.List.{List, [], _∷_}
 use Prim.Native.Nat.{ℕ, suc, _+_, _-_, _*_}
-use lib.Dec.{leb}
+use lib.Dec.{eqb, leb}
 
 -- how many bytes at the front are of a kind
 unfoldable pub run : (ℕ → Bool) → List ℕ → ℕ
 run p [] = 0
 run p (x ∷ xs) = cond (p x) (suc (run p xs)) 0
+
+-- two texts are the same
+unfoldable pub same : List ℕ → List ℕ → Bool
+same [] [] = true
+same [] (y ∷ ys) = false
+same (x ∷ xs) [] = false
+same (x ∷ xs) (y ∷ ys) = eqb x y && same xs ys
+
+-- a blank is a space or a tab
+abbrev pub isBlank : ℕ → Bool
+isBlank x = eqb x 32 || eqb x 9
 
 -- a digit is one of 0 to 9
 abbrev pub isDigit : ℕ → Bool

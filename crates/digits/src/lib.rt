@@ -1,10 +1,10 @@
-// Numbers read from the bytes of a text. A number above every field's limit is read as one such number, so that digits without
+// Blanks, and numbers read from the bytes of a text. A number above every field's limit is read as one such number, so that digits without
 // end do no harm: no count and no distance is ever taken modulo anything.
 ghost use mathlib.Core.Path.{_≡_};
 ghost use Prim.Native.Nat.{_+_, _*_, _≤_};
 ghost use lib.ListN.{length, getD, drop};
 ghost use lib.Seq.{slice};
-ghost use Rattle.digits.specs.Digits.{run, isDigit, digitOf, most, atMost, numberFrom};
+ghost use Rattle.digits.specs.Digits.{run, isBlank, isDigit, digitOf, most, atMost, numberFrom};
 
 // What a number is cut at.
 const MOST: u64 = 1000000000000000;
@@ -17,6 +17,31 @@ pub fn byte_at(text: &[u8], k: usize) -> u8
         return text[k];
     }
     0
+}
+
+// Whether a byte is a blank.
+pub fn is_blank(byte: u8) -> bool
+    ensures { λ r. ⌜ r ≡ isBlank byte ⌝ }
+{
+    if byte == 32 {
+        return true;
+    }
+    byte == 9
+}
+
+// Where the blanks at a place end.
+pub fn blanks_end(text: &[u8], at: usize) -> usize
+    requires { ⌜ at ≤ length (now text) ⌝ }
+    ensures { λ r. ⌜ (r ≡ at + run isBlank (drop at (now (text .entry)))) × (r ≤ length (now (text .entry))) ⌝ }
+{
+    let mut end = at;
+    while end < text.len() {
+        if !is_blank(text[end]) {
+            return end;
+        }
+        end += 1;
+    }
+    end
 }
 
 // Whether a byte is a digit.

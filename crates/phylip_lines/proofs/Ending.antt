@@ -10,9 +10,9 @@ use lib.Dec.{eqb}
 use lib.ListN.{length, getD, take, drop, length-drop}
 use lib.Seq.{slice, getD-drop, drop-drop}
 use Rattle.exact.proofs.Decide.{by-cases}
-use Rattle.digits.specs.Digits.{run, isDigit, atMost, numberFrom}
+use Rattle.digits.specs.Digits.{run, isBlank, isDigit, atMost, numberFrom}
 use Rattle.digits.proofs.Reading.{both-true, inside, slice-is}
-use Rattle.phylip_text.specs.Form.{isBlank, past, lineEndSize, lineEnd, endBad, nextLine, countSize, countOf, behindCount}
+use Rattle.phylip_text.specs.Form.{past, lineEndSize, lineEnd, endBad, nextLine, countSize, countOf, behindCount}
 use Rattle.phylip_lines.specs.Lines.{EndRead, CountRead}
 
 -- a line end is in the text

@@ -4,34 +4,8 @@ ghost use mathlib.Core.Bool.{not, _&&_};
 ghost use Prim.Native.Nat.{_+_, _≤_};
 ghost use lib.Dec.{eqb};
 ghost use lib.ListN.{length, drop};
-ghost use Rattle.digits.specs.Digits.{run};
-ghost use Rattle.phylip_text.specs.Form.{isBlank, lineEndSize};
+ghost use Rattle.phylip_text.specs.Form.{lineEndSize};
 ghost use Rattle.phylip_lines.specs.Lines.{EndRead, CountRead};
-
-// Whether a byte is a blank.
-fn is_blank(byte: u8) -> bool
-    ensures { λ r. ⌜ r ≡ isBlank byte ⌝ }
-{
-    if byte == 32 {
-        return true;
-    }
-    byte == 9
-}
-
-// Where the blanks at a place end.
-fn blanks_end(text: &[u8], at: usize) -> usize
-    requires { ⌜ at ≤ length (now text) ⌝ }
-    ensures { λ r. ⌜ (r ≡ at + run isBlank (drop at (now (text .entry)))) × (r ≤ length (now (text .entry))) ⌝ }
-{
-    let mut end = at;
-    while end < text.len() {
-        if !is_blank(text[end]) {
-            return end;
-        }
-        end += 1;
-    }
-    end
-}
 
 // How many bytes the line end has that two bytes begin; 0 where they begin none.
 fn line_end_size(byte: u8, next: u8) -> usize
@@ -70,7 +44,7 @@ pub fn line_end(text: &[u8], at: usize) -> LineEnd
     requires { ⌜ at ≤ length (now text) ⌝ }
     ensures { λ r. ⌜ EndRead (now (text .entry)) at r ⌝ }
 {
-    let end = blanks_end(text, at);
+    let end = digits::blanks_end(text, at);
     let size = line_end_size(digits::byte_at(text, end), digits::byte_at(text, end + 1));
     LineEnd {
         bad: unended(end, text.len(), size),
@@ -89,7 +63,7 @@ pub struct Count {
 pub fn strain_count(text: &[u8]) -> Count
     ensures { λ r. ⌜ CountRead (now (text .entry)) r ⌝ }
 {
-    let start = blanks_end(text, 0);
+    let start = digits::blanks_end(text, 0);
     let end = digits::digits_end(text, start);
     Count {
         none: start == end,

@@ -20,10 +20,10 @@ use Rattle.matrix.specs.Tests.{countOut, strainsOut, distanceOut, matrixTests}
 use Rattle.matrix.proofs.Places.{place-onto, stands-at, pair-place-up, pair-place-sym}
 use Rattle.writing.specs.Text.{decimal}
 use Rattle.writing.proofs.Decimals.{decimal-small, decimal-step}
-use Rattle.digits.specs.Digits.{run, isDigit, numberFrom}
+use Rattle.digits.specs.Digits.{run, isBlank, isDigit, numberFrom}
 use Rattle.cells.specs.Cell.{cellOut, cellEntry}
 use Rattle.cells.specs.Row.{cellText}
-use Rattle.phylip_text.specs.Form.{isBlank, past, nextLine, endBad, countSize, countOf, behindCount, nameOut, nameSize, cellsOf, rowText, cellAt, rowsOf, rowsBad, rowBad, decimalsOut, entryAt, halvesOut, distancesRead, namesRead}
+use Rattle.phylip_text.specs.Form.{past, nextLine, endBad, countSize, countOf, behindCount, nameOut, nameSize, cellsOf, rowText, cellAt, rowsOf, rowsBad, rowBad, decimalsOut, entryAt, halvesOut, distancesRead, namesRead}
 use Rattle.phylip_text.specs.Tests.{maxText, readTests, Reads, namesShort, nameByteOut, matterTests}
 use Rattle.phylip_text.specs.Text.{piecesFrom, pieces, valueAt, rowWritten, textOf}
 use Rattle.phylip_text.proofs.Sizes.{text-length}

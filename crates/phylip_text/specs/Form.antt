@@ -18,14 +18,11 @@ use lib.ListN.{length, getD, take, drop}
 use Rattle.exact.specs.Table.{table}
 use Rattle.verdict.specs.Table.{some}
 use Rattle.matrix.specs.Place.{pairCount, pairAt}
-use Rattle.digits.specs.Digits.{run, isDigit, numberFrom}
+use Rattle.digits.specs.Digits.{run, isBlank, isDigit, numberFrom}
 use Rattle.cells.specs.Cell.{cellOut, cellEntry}
 use Rattle.cells.specs.Row.{rest, cellText, cellBad}
 
 -- ---- lines
-abbrev pub isBlank : ℕ → Bool
-isBlank x = eqb x 32 || eqb x 9
-
 -- behind the blanks at the front
 abbrev pub past : List ℕ → List ℕ
 past l = drop (run isBlank l) l

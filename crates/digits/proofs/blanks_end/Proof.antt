@@ -4,10 +4,10 @@ use Prim.Native.Nat.{_-_}
 use borrow.Author.Needs.{needs}
 use borrow.Author.Tests.{not-true, not-false}
 use lib.ListN.{length}
-use Rattle.phylip_text.specs.Form.{isBlank}
+use Rattle.digits.specs.Digits.{isBlank}
 use Rattle.digits.proofs.Reading.{RunAt, run-start, run-more, run-stop, run-end}
-use Rattle.phylip_lines.proofs.blanks_end.Statement.{statement}
-use Rattle.phylip_lines.proofs.blanks_end.Tie as tie
+use Rattle.digits.proofs.blanks_end.Statement.{statement}
+use Rattle.digits.proofs.blanks_end.Tie as tie
 
 abbrev Inv-loop : tie.InvT-loop
 Inv-loop text at end₀ end = RunAt isBlank text at end

@@ -1,7 +1,7 @@
 -- The two blanks, one by one.
 use borrow.Author.Tests.{eq-eqb, ne-eqb}
-use Rattle.phylip_lines.proofs.is_blank.Statement.{statement}
-use Rattle.phylip_lines.proofs.is_blank.Tie as tie
+use Rattle.digits.proofs.is_blank.Statement.{statement}
+use Rattle.digits.proofs.is_blank.Tie as tie
 
 returns : tie.Need-returns
 returns c = simp (eq-eqb _ _ (c .if1 .taken))

@@ -1,0 +1,14 @@
+-- By whether the number is in its range.
+use borrow.Author.Tests.{le-leb, lt-leb}
+use native.Mathlib.Omega.{arith}
+use Rattle.desk_words.proofs.field.Statement.{statement}
+use Rattle.desk_words.proofs.field.Tie as tie
+
+returns : tie.Need-returns
+returns c = simp (le-leb _ _ (c .if1 .taken))
+
+returns-2 : tie.Need-returns-2
+returns-2 c = simp (lt-leb _ _ (c .if1 .left))
+
+pub field-spec : {M : Type 1} → statement M
+field-spec = tie.close (tie.spec returns returns-2)
