@@ -1,7 +1,7 @@
 -- Cutting a call's numbers to their fields changes no answer and no desk (`cut-answer`, `cut-step`): each test asks the same of a number
 -- and of what it is cut to, and a call that passes has no number that is cut (`cut-same`).
 use mathlib.Core.Path.{_≡_, refl, sym, _∙_, ap, ap₂}
-use mathlib.Core.Bool.{Bool, true, false, cond, not, _||_, true≢false}
+use mathlib.Core.Bool.{Bool, true, false, cond, not, _&&_, _||_, true≢false}
 use mathlib.Core.List.{List, [], _∷_, map}
 use Prim.Native.Nat.{ℕ, zero, suc, _+_, _-_, _*_, _≤_, _<_}
 use native.Mathlib.Decide.{decLt, ℕ-discrete}
@@ -11,7 +11,9 @@ use lib.Dec.{eqb, ltb, leb}
 use lib.IntN.{ℤ, pos, negsuc, negℤ, natAbs}
 use lib.ListN.{length, length-map, getD}
 use lib.Seq.{ext-getD}
-use Rattle.exact.proofs.Decide.{by-cases, eq-yes, eq-no}
+use Rattle.exact.specs.Table.{table}
+use Rattle.exact.proofs.Decide.{by-cases}
+use Rattle.exact.proofs.Fill.{length-table, getD-table, table-is, table-cong}
 use Rattle.verdict.specs.Answer.{Answer, pass, fault, test, atFirst, _orElse_}
 use Rattle.verdict.specs.Table.{some}
 use Rattle.verdict.specs.declared.Place.{Place}
@@ -19,8 +21,8 @@ use Rattle.verdict.specs.declared.Place.the-variants.{Nowhere, Vertex, Edge}
 use Rattle.verdict.specs.declared.Rule.the-variants.{Plain}
 use Rattle.verdict.proofs.Answers.{refuses, orElse-pass, test-pass, first-pass, atFirst-cong, or-none}
 use Rattle.verdict.proofs.Table.{some-cong, some-none}
-use Rattle.matrix.specs.Limits.{maxDistance}
-use Rattle.matrix.specs.Place.{pairCount, known}
+use Rattle.matrix.specs.Limits.{maxStrains, maxDistance}
+use Rattle.matrix.specs.Place.{pairCount, known, pairAt, rowPlace, fromRows}
 use Rattle.matrix.specs.Tests.{strainsOut, distanceOut, matrixTests}
 use Rattle.matrix.proofs.Places.{count-room}
 use Rattle.tree_theory.specs.Limits.{maxEdges}
@@ -35,6 +37,7 @@ use Rattle.correction_theory.proofs.Asked.{→apart, far-near}
 use Rattle.desk_theory.specs.Desk.{Posting, nothing, matrixTree, Table, Desk, Call, post, correct, propose, withdraw, report, benchOut, isNone, ifPosted, answer, answerOn, effect, step}
 use Rattle.desk_theory.specs.Promises.{PostedWell}
 use Rattle.desk_theory.proofs.Runs.{refused-same}
+use Rattle.desk_text.specs.Meaning.{byStrains, maxWords}
 use Rattle.desk_text.specs.Fields.{cutTo, word, cutWord, cutDistance, cutParent, cutMagnitude, cutNumerator, cutCall}
 
 -- ---- one number
@@ -149,10 +152,6 @@ module _ (N : ℕ) (ps : List ℕ) where
       parents-kept (test-pass 6 (strainsOut N) six) (test-pass 8 (verticesOut N (length ps + 1)) eight) (orElse-pass (parentsBy ps) (childrenBy ps) u .0)
 
 -- ---- a posting
--- so many distances as a line can hold
-abbrev pub maxWords : ℕ
-maxWords = 8192
-
 many-pairs : (N : ℕ) (ds : List ℕ) → 129 < N → length ds ≤ maxWords → matrixTests N ds ≡ fault 4 Nowhere
 many-pairs N ds h l = let b = count-room N 129 h in
     ap (λ (q : Bool). test 4 (not q) orElse test 6 (strainsOut N) orElse test 7 (distanceOut ds)) (ne-eqb (length ds) (pairCount N) (λ e. absurd (omega (arith, b, e))))
@@ -323,3 +322,27 @@ module _ (d : Desk) (well : PostedWell (d .posting)) where
       go : (a : Answer) → answer d c ≡ a → step d (cutCall c) ≡ step d c
       go pass e = ap (step d) (cut-same c few e)
       go (fault k p) e = refused-same d (cutCall c) k p (cut-answer c few ∙ e) ∙ sym (refused-same d c k p e)
+
+-- ---- distances are cut before they are put in the matrix's order, or behind that
+getD-cut : (l : List ℕ) (k : ℕ) → getD (map cutDistance l) k 0 ≡ cutDistance (getD l k 0)
+getD-cut [] k = refl
+getD-cut (x ∷ xs) zero = refl
+getD-cut (x ∷ xs) (suc k) = getD-cut xs k
+
+map-table : (n : ℕ) (f : ℕ → ℕ) (g : ℕ → ℕ) → map g (table n f) ≡ table n (λ k. g (f k))
+map-table n f g = table-is 0 (λ k. g (f k)) n (map g (table n f)) (length-map (table n f) g ∙ length-table n f)
+    (λ k h. getD-map g (table n f) 0 0 k (omega (arith, h, length-table n f)) ∙ ap g (getD-table n f 0 k h))
+
+pub strains-cut : (N : ℕ) (rows : List ℕ) → byStrains (cutWord N) (map cutDistance rows) ≡ map cutDistance (byStrains N rows)
+unfolding byStrains
+strains-cut N rows = by-cases (decLt maxStrains N)
+    (λ h. ap (λ (b : Bool). cond (b && eqb (length (map cutDistance rows)) (pairCount (cutWord N))) (table (length (map cutDistance rows)) (fromRows (cutWord N) (λ k. getD (map cutDistance rows) k 0))) (map cutDistance rows)) (past h)
+    ∙ sym (ap (λ (b : Bool). map cutDistance (cond (b && eqb (length rows) (pairCount N)) (table (length rows) (fromRows N (λ k. getD rows k 0))) rows)) (lt-leb N maxStrains h)))
+    (λ h. let e : cutWord N ≡ N = cut-low word word N (omega arith) in rw (e, length-map rows cutDistance) (go (leb N maxStrains && eqb (length rows) (pairCount N))))
+  where
+    past : maxStrains < N → leb (cutWord N) maxStrains ≡ false
+    past h = cut-asked (λ (n : ℕ). leb n maxStrains) word word N (λ l. sym (lt-leb N maxStrains h)) ∙ lt-leb N maxStrains h
+
+    go : (b : Bool) → cond b (table (length rows) (fromRows N (λ k. getD (map cutDistance rows) k 0))) (map cutDistance rows) ≡ map cutDistance (cond b (table (length rows) (fromRows N (λ k. getD rows k 0))) rows)
+    go true = table-cong 0 (length rows) _ _ (λ k h. getD-cut rows (rowPlace N (pairAt k .0) (pairAt k .1))) ∙ sym (map-table (length rows) (fromRows N (λ k. getD rows k 0)) cutDistance)
+    go false = refl

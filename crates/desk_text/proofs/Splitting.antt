@@ -11,6 +11,7 @@ use lib.Dec.{eqb, ltb}
 use lib.ListN.{length, take, drop}
 use Rattle.digits.specs.Digits.{run, isBlank, isDigit}
 use Rattle.digits.proofs.Reading.{both-true, digit-low}
+use Rattle.desk_text.specs.Meaning.{maxLine, maxWords}
 use Rattle.desk_text.specs.Words.{isLetter, wordOver, onto, words, isNumber}
 
 pub words-past : (l : List ℕ) → words (drop (run isBlank l) l) ≡ words l
@@ -81,8 +82,8 @@ words-size (x ∷ xs) = go (isBlank x) (wordOver xs) refl (words-size xs)
     go false true e ih = omega (arith, ih, ap missing e)
     go false false e ih = let h = onto-size x (words xs) (length xs) (omega (arith, ih, missing-one (wordOver xs))) in omega (arith, h)
 
-pub few-words : (l : List ℕ) → 2 * length (words l) ≤ length l + 1
-few-words l = omega (arith, words-size l, missing-one (wordOver l))
+pub few-words : (l : List ℕ) → length l ≤ maxLine → length (words l) ≤ maxWords
+few-words l h = omega (arith, h, words-size l, missing-one (wordOver l))
 
 -- ---- a number at the front
 and-false : (b : Bool) → (b && false) ≡ false

@@ -88,9 +88,12 @@ ofWords (w ∷ ws) =
     (cond (same w withdrawWord) (benchIn (λ b. call (withdraw b)) ws)
     (cond (same w reportWord) (benchIn shows ws) wrong))))
 
--- the most bytes that a line may have
+-- the most bytes that a line may have, and the most words that it can then have
 abbrev pub maxLine : ℕ
 maxLine = 16384
+
+abbrev pub maxWords : ℕ
+maxWords = 8192
 
 -- a line whose first byte is # is for people
 abbrev pub isComment : List ℕ → Bool
