@@ -1,154 +1,36 @@
--- A line's words taken one by one: what is read of word k, and what is left behind it (`field-found`, `field-value`, `field-next`); and the
--- meaning that the parts of a line give (`post-some`, `propose-some`, `correct-some`, `bench-some`), or that it has none.
+-- The meaning that the words of a line give, or that it has none: of a proposal (`propose-some`), of a correction (`correct-some`), of a bench
+-- alone (`bench-some`), of the first word (`kind-..`) and of the whole line (`head-..`).
 use mathlib.Core.Path.{_≡_, refl, sym, _∙_, ap, ap₂, subst}
 use mathlib.Core.Bool.{Bool, true, false, cond, _&&_, true≢false}
-use mathlib.Core.List.{List, [], _∷_, map, map-map, _++_}
-use Prim.Native.Nat.{ℕ, zero, suc, _+_, _-_, _≤_, _<_}
+use mathlib.Core.List.{List, [], _∷_, map, map-map}
+use Prim.Native.Nat.{ℕ, _-_, _≤_, _<_}
 use native.Mathlib.Decide.{decLt}
 use native.Mathlib.Omega.{arith}
-use lib.Dec.{eqb}
+use borrow.Author.Tests.{lt-ltb, le-ltb, eq-eqb, ne-eqb}
 use lib.IntN.{ℤ}
-use lib.ListN.{length, length-map, length-drop, getD, take, drop, List·getD-eq-default}
-use lib.Seq.{getD-drop, drop-drop, take-at, length-front, length-take-le}
+use lib.ListN.{length, getD, take, drop}
 use Rattle.exact.proofs.Decide.{by-cases}
-use Rattle.digits.specs.Digits.{run, atMost, same}
 use Rattle.desk_theory.specs.Desk as calls
+use Rattle.digits.specs.Digits.{run, same}
 use Rattle.desk_text.specs.Words.{isLetter, words, isNumber, valueOf, isSigned, signedOf, leading, behind}
-use Rattle.desk_text.specs.Meaning.{Meaning, wrong, call, slash, byStrains, noMore, wordAt, ofForm, maxLine, maxWords, postIn, parentsIn, proposeIn, correctIn}
-use Rattle.desk_text.specs.Fields.{cutTo, word, cutWord, cutDistance, cutParent, cutNumerator, cut}
-use Rattle.desk_text.proofs.Cutting.{cut-low, cut-high, strains-cut}
-use Rattle.desk_text.proofs.Splitting.{few-words}
-use Rattle.desk_words.specs.Reads.{wordsAt, startAt, endAt, WordRead, NumberRead, TakenIn}
+use Rattle.desk_text.specs.Meaning.{Meaning, silent, wrong, call, shows, postWord, proposeWord, correctWord, withdrawWord, reportWord, noMore, wordAt, ofForm, proposeIn, correctIn, benchIn, ofWords, maxLine, isComment, meaningOf}
+use Rattle.desk_text.specs.Fields.{cutWord, cutDistance, cutNumerator, cut}
+use Rattle.desk_text.proofs.Cutting.{cut-low, cut-high}
+use Rattle.desk_words.specs.Reads.{wordsAt, startAt, WordRead}
 use Rattle.desk_words.specs.declared.Word.{Word}
-use Rattle.desk_words.specs.declared.Number.{Number}
-use Rattle.desk_words.specs.declared.Taken.{Taken}
-use Rattle.desk_words.proofs.Reading.{words-behind, none-left, first-word, cut-twice}
-use Rattle.desk_tables.specs.Laid as laid
-use Rattle.desk_tables.proofs.Laying.{strains-size}
-use Rattle.desk_lines.specs.Lines.{FrontRead, BackRead, BenchRead, asMeaning, Within, LineIs}
-use Rattle.desk_lines.specs.declared.Front as front
-use Rattle.desk_lines.specs.declared.Back as back
+use Rattle.desk_words.proofs.Reading.{first-word, words-behind}
+use Rattle.desk_posts.specs.Posts.{asPosting, PostRead}
+use Rattle.desk_posts.specs.declared.Post.{Post}
+use Rattle.desk_posts.proofs.Lining.{over-is}
+use Rattle.desk_lines.specs.Lines.{BenchRead, asMeaning, Within, LineIs, ofKind, KindOf, isCall, HeadRead}
+use Rattle.desk_lines.specs.declared.Bench.{Bench}
+use Rattle.desk_lines.specs.declared.Kind.{Kind}
+use Rattle.desk_lines.specs.declared.Kind.the-variants as kinds
+use Rattle.desk_lines.specs.declared.Head.{Head}
 use Rattle.desk_lines.specs.declared.Line.{Line}
-use Rattle.desk_lines.specs.declared.Line.the-variants.{Wrong, Posting, Correcting, Proposing, Withdrawing, Reporting}
+use Rattle.desk_lines.specs.declared.Line.the-variants.{Silent, Wrong, Posting, Correcting, Proposing, Withdrawing, Reporting}
 
--- there is room for the words that are left
-pub room : (s : List ℕ) (at : ℕ) → length s ≤ maxLine → length (wordsAt s at) ≤ maxWords
-room s at h = few-words (drop at s) (let e = length-drop at s in omega (arith, e, h))
-
-pub over-is : (s : List ℕ) (at : ℕ) (r : Word) → WordRead s at r → eqb (r .start) (r .end) ≡ noMore (wordsAt s at)
-over-is s at r w = ap₂ eqb (w .start-is) (w .end-is) ∙ none-left s at
-
--- ---- word k as a number
-module _ (s : List ℕ) (ws : List (List ℕ)) (k at : ℕ) (r : Number) (here : wordsAt s at ≡ drop k ws) (n : NumberRead s at r) where
-  word-is : wordAt 0 (wordsAt s at) ≡ wordAt k ws
-  word-is = ap (wordAt 0) here ∙ getD-drop k ws 0 [] ∙ ap (λ (i : ℕ). wordAt i ws) (let z : k + 0 ≡ k = omega arith in z)
-
-  pub field-found : r .found ≡ isNumber (wordAt k ws)
-  field-found = n .found-is ∙ ap isNumber word-is
-
-  module _ (hit : r .found ≡ true) where
-    pub field-value : (most above : ℕ) → most < 1000000000000000 → cutTo most above (r .value) ≡ cutTo most above (valueOf (wordAt k ws))
-    field-value most above h = ap (cutTo most above) (n .value-is ∙ ap (λ (b : Bool). cond b (atMost (valueOf (wordAt 0 (wordsAt s at)))) 0) hit)
-        ∙ cut-twice most above (valueOf (wordAt 0 (wordsAt s at))) h ∙ ap (λ (w : List ℕ). cutTo most above (valueOf w)) word-is
-
-    pub field-next : wordsAt s (r .end) ≡ drop (k + 1) ws
-    field-next = ap (wordsAt s) (n .end-is ∙ ap (λ (b : Bool). cond b (endAt s at) (startAt s at)) hit) ∙ words-behind s at ∙ ap (drop 1) here ∙ drop-drop 1 k ws
-
--- ---- what stands at the front of a table after a run was taken
-pub taken-values : {A : Type 0} (p : List ℕ → Bool) (f : List ℕ → A) (s : List ℕ) (at : ℕ) (before after : List A) (r : Taken) → TakenIn p f s at before after r
-    → take (r .count) after ≡ map f (leading p (wordsAt s at))
-taken-values p f s at before after r t = ap₂ (λ (n : ℕ) (l : List _). take n l) (t .count-is) (t .table-is)
-    ∙ take-at (map f (leading p (wordsAt s at))) (drop (length (leading p (wordsAt s at))) before) (length (leading p (wordsAt s at))) (length-map (leading p (wordsAt s at)) f)
-
-pub taken-size : {A : Type 0} (p : List ℕ → Bool) (f : List ℕ → A) (s : List ℕ) (at : ℕ) (before after : List A) (r : Taken) → TakenIn p f s at before after r → length after ≡ length before
-taken-size p f s at before after r t = let n = length (leading p (wordsAt s at)) in
-    ap length (t .table-is) ∙ length-front before (map f (leading p (wordsAt s at))) n (length-map (leading p (wordsAt s at)) f ∙ sym (length-take-le n before (let q = t .count-is in let b = t .few in omega (arith, q, b))))
-
--- ---- "N distances"
-module _ (s : List ℕ) (at : ℕ) (n : Number) (h : NumberRead s at n) where
-  pub front-none : (ds : List ℕ) → at ≤ length s → n .found ≡ false → FrontRead s at ds (record { found = false; n = 0; pairs = 0; end = at })
-  front-none ds w miss = record {
-    found-is = sym miss ∙ h .found-is;
-    n-is = λ e. absurd (true≢false (sym e));
-    distances-are = λ e. absurd (true≢false (sym e));
-    few = omega arith;
-    within = w;
-    rest-is = λ e. absurd (true≢false (sym e));
-  }
-
-  module _ (hit : n .found ≡ true) (strains : ℕ) (e : strains ≡ cutWord (n .value)) (before after : List ℕ) (t : Taken)
-      (taken : TakenIn isNumber (λ w. cutTo 65535 65534 (valueOf w)) s (n .end) before after t) (ds ds′ : List ℕ) (l : laid.Front (byStrains strains (take (t .count) after)) ds ds′) where
-    next : wordsAt s (n .end) ≡ drop 1 (wordsAt s at)
-    next = field-next s (wordsAt s at) 0 at n refl h hit
-
-    rows : take (t .count) after ≡ map (λ w. cutDistance (valueOf w)) (leading isNumber (drop 1 (wordsAt s at)))
-    rows = taken-values isNumber (λ w. cutDistance (valueOf w)) s (n .end) before after t taken ∙ ap (λ (ws : List (List ℕ)). map (λ w. cutDistance (valueOf w)) (leading isNumber ws)) next
-
-    size : length (byStrains strains (take (t .count) after)) ≡ t .count
-    size = strains-size strains (take (t .count) after) ∙ ap length rows ∙ length-map (leading isNumber (drop 1 (wordsAt s at))) (λ w. cutDistance (valueOf w))
-        ∙ ap (λ (ws : List (List ℕ)). length (leading isNumber ws)) (sym next) ∙ sym (taken .count-is)
-
-    pub front-some : t .count ≤ length ds → FrontRead s at ds′ (record { found = true; n = strains; pairs = t .count; end = t .end })
-    front-some few = record {
-      found-is = sym hit ∙ h .found-is;
-      n-is = λ _. e ∙ field-value s (wordsAt s at) 0 at n refl h hit word word (omega arith);
-      distances-are = λ _. ap (λ (k : ℕ). take k ds′) (sym size) ∙ l .front-is ∙ ap (byStrains strains) rows;
-      few = let q = l .size in omega (arith, few, q);
-      within = taken .within;
-      rest-is = λ _. taken .rest-is ∙ ap (behind isNumber) next;
-    }
-
--- ---- "/ parents"
-module _ (s : List ℕ) (at : ℕ) (w : Word) (h : WordRead s at w) (b : Bool) (is : b ≡ same (take (w .end - w .start) (drop (w .start) s)) slash) where
-  slash-is : b ≡ same (wordAt 0 (wordsAt s at)) slash
-  slash-is = is ∙ ap (λ (l : List ℕ). same l slash) (ap₂ (λ (n k : ℕ). take n (drop k s)) size (h .start-is) ∙ first-word s at)
-    where
-      size : w .end - w .start ≡ run isLetter (drop (startAt s at) s)
-      size = let p = h .start-is in let q = h .end-is in omega (arith, p, q)
-
-  pub back-none : (ps : List ℕ) → b ≡ false → BackRead s at ps (record { found = false; edges = 0 })
-  back-none ps miss = record {
-    found-is = sym (ap (λ (q : Bool). q && noMore (behind isNumber (drop 1 (wordsAt s at)))) (sym slash-is ∙ miss));
-    parents-are = λ e. absurd (true≢false (sym e));
-    few = omega arith;
-  }
-
-  module _ (hit : b ≡ true) (before after : List ℕ) (t : Taken) (taken : TakenIn isNumber (λ x. cutTo 255 255 (valueOf x)) s (w .end) before after t)
-      (done : Bool) (d : done ≡ noMore (wordsAt s (t .end))) where
-    parents-next : wordsAt s (w .end) ≡ drop 1 (wordsAt s at)
-    parents-next = ap (wordsAt s) (h .end-is) ∙ words-behind s at
-
-    done-is : done ≡ noMore (behind isNumber (drop 1 (wordsAt s at)))
-    done-is = d ∙ ap noMore (taken .rest-is ∙ ap (behind isNumber) parents-next)
-
-    found : done ≡ (same (wordAt 0 (wordsAt s at)) slash && noMore (behind isNumber (drop 1 (wordsAt s at))))
-    found = done-is ∙ sym (ap (λ (q : Bool). q && noMore (behind isNumber (drop 1 (wordsAt s at)))) (sym slash-is ∙ hit))
-
-    pub back-more : (ps : List ℕ) → done ≡ false → BackRead s at ps (record { found = false; edges = 0 })
-    back-more ps miss = record { found-is = sym miss ∙ found; parents-are = λ e. absurd (true≢false (sym e)); few = omega arith }
-
-    values : take (t .count) after ≡ map (λ x. cutParent (valueOf x)) (leading isNumber (wordsAt s (w .end)))
-    values = taken-values isNumber (λ x. cutParent (valueOf x)) s (w .end) before after t taken
-
-    byte : (ws : List (List ℕ)) (k : ℕ) → getD (map (λ x. cutParent (valueOf x)) ws) k 0 < 256
-    byte [] k = omega arith
-    byte (x ∷ xs) zero = by-cases (decLt 255 (valueOf x)) (λ l. let e = cut-high 255 255 (valueOf x) l in omega (arith, e)) (λ l. let e = cut-low 255 255 (valueOf x) (omega arith) in omega (arith, e))
-    byte (x ∷ xs) (suc k) = byte xs k
-
-    pub back-bytes : (k : ℕ) → getD (take (t .count) after) k 0 < 256
-    back-bytes k = subst (λ (l : List ℕ). getD l k 0 < 256) (sym values) (byte (leading isNumber (wordsAt s (w .end))) k)
-
-    pub back-some : (ps ps′ : List ℕ) → done ≡ true → laid.Front (take (t .count) after) ps ps′ → t .count ≤ length ps → BackRead s at ps′ (record { found = true; edges = t .count })
-    back-some ps ps′ over l few = record {
-      found-is = sym over ∙ found;
-      parents-are = λ _. ap (λ (k : ℕ). take k ps′) (sym size) ∙ l .front-is ∙ values ∙ ap (λ (ws : List (List ℕ)). map (λ x. cutParent (valueOf x)) (leading isNumber ws)) parents-next;
-      few = let q = l .size in omega (arith, few, q);
-    }
-      where
-        size : length (take (t .count) after) ≡ t .count
-        size = ap length values ∙ length-map (leading isNumber (wordsAt s (w .end))) (λ x. cutParent (valueOf x)) ∙ sym (taken .count-is)
-
--- ---- the whole line
+-- ---- of the form, or not
 pub form-wrong : (b : Bool) (m : Meaning) (ds ps : List ℕ) (ns : List ℤ) → b ≡ false → LineIs (ofForm b m) ds ps ns Wrong
 unfolding cut
 form-wrong b m ds ps ns e = record { means = sym (ap (λ (q : Bool). cut (ofForm q m)) e); within = tt }
@@ -156,37 +38,12 @@ form-wrong b m ds ps ns e = record { means = sym (ap (λ (q : Bool). cut (ofForm
 pub form-right : (b : Bool) (m : Meaning) (ds ps : List ℕ) (ns : List ℤ) (r : Line) → b ≡ true → asMeaning ds ps ns r ≡ cut m → Within ds ps ns r → LineIs (ofForm b m) ds ps ns r
 form-right b m ds ps ns r e f w = record { means = f ∙ sym (ap (λ (q : Bool). cut (ofForm q m)) e); within = w }
 
-module _ (s : List ℕ) (at : ℕ) (ds : List ℕ) (f : front.Front) (h : FrontRead s at ds f) where
-  abbrev ws : List (List ℕ)
-  ws = wordsAt s at
+-- a posting
+pub posting-wrong : (m : Meaning) (ds ps : List ℕ) (p : Post) → PostRead m ds ps p → p .found ≡ false → (ns : List ℤ) → LineIs m ds ps ns Wrong
+posting-wrong m ds ps p r miss ns = record { means = sym (ap (λ (b : Bool). ofForm b (asPosting ds ps p)) miss) ∙ r .means; within = tt }
 
-  pub post-none : f .found ≡ false → (ps : List ℕ) (ns : List ℤ) → LineIs (postIn ws) ds ps ns Wrong
-  post-none miss ps ns = form-wrong (isNumber (wordAt 0 ws)) _ ds ps ns (sym (h .found-is) ∙ miss)
-
-  module _ (hit : f .found ≡ true) (ps : List ℕ) (b : back.Back) (g : BackRead s (f .end) ps b) where
-    post-is : postIn ws ≡ parentsIn (valueOf (wordAt 0 ws)) (map valueOf (leading isNumber (drop 1 ws))) (wordsAt s (f .end))
-    post-is = ap (λ (q : Bool). ofForm q (parentsIn (valueOf (wordAt 0 ws)) (map valueOf (leading isNumber (drop 1 ws))) (behind isNumber (drop 1 ws)))) (sym (h .found-is) ∙ hit)
-        ∙ ap (parentsIn (valueOf (wordAt 0 ws)) (map valueOf (leading isNumber (drop 1 ws)))) (sym (h .rest-is hit))
-
-    pub post-wrong : b .found ≡ false → (ns : List ℤ) → LineIs (postIn ws) ds ps ns Wrong
-    post-wrong miss ns = subst (λ (m : Meaning). LineIs m ds ps ns Wrong) (sym post-is)
-        (form-wrong (same (wordAt 0 (wordsAt s (f .end))) slash && noMore (behind isNumber (drop 1 (wordsAt s (f .end))))) _ ds ps ns (sym (g .found-is) ∙ miss))
-
-    pub post-some : b .found ≡ true → (ns : List ℤ) → LineIs (postIn ws) ds ps ns (Posting (record { n = f .n; pairs = f .pairs; edges = b .edges }))
-    unfolding cut
-    post-some found ns = subst (λ (m : Meaning). LineIs m ds ps ns (Posting (record { n = f .n; pairs = f .pairs; edges = b .edges }))) (sym post-is)
-        (form-right (same (wordAt 0 (wordsAt s (f .end))) slash && noMore (behind isNumber (drop 1 (wordsAt s (f .end))))) _ ds ps ns _ (sym (g .found-is) ∙ found)
-        (ap call (parts (h .n-is hit) distances (g .parents-are found ∙ sym (map-map cutParent valueOf (leading isNumber (drop 1 (wordsAt s (f .end)))))))) (h .few, g .few))
-      where
-        rows : List ℕ
-        rows = map valueOf (leading isNumber (drop 1 ws))
-
-        parts : {n n′ : ℕ} {d d′ p p′ : List ℕ} → n ≡ n′ → d ≡ d′ → p ≡ p′ → calls.post n d p ≡ calls.post n′ d′ p′
-        parts e q r = rw (e, q, r)
-
-        distances : take (f .pairs) ds ≡ map cutDistance (byStrains (valueOf (wordAt 0 ws)) (map valueOf (leading isNumber (drop 1 ws))))
-        distances = h .distances-are hit ∙ ap₂ byStrains (h .n-is hit) (sym (map-map cutDistance valueOf (leading isNumber (drop 1 ws))))
-            ∙ strains-cut (valueOf (wordAt 0 ws)) (map valueOf (leading isNumber (drop 1 ws)))
+pub posting-right : (m : Meaning) (ds ps : List ℕ) (p : Post) → PostRead m ds ps p → p .found ≡ true → (ns : List ℤ) → LineIs m ds ps ns (Posting p)
+posting-right m ds ps p r hit ns = record { means = sym (ap (λ (b : Bool). ofForm b (asPosting ds ps p)) hit) ∙ r .means; within = (r .few-pairs, r .few-edges) }
 
 -- ---- the other calls, by their words
 module _ (ws : List (List ℕ)) (ds ps : List ℕ) (ns : List ℤ) where
@@ -243,26 +100,115 @@ module _ (ws : List (List ℕ)) (ds ps : List ℕ) (ns : List ℤ) where
   pub bench-some : (b : ℕ) → isNumber (wordAt 0 ws) ≡ true → noMore (drop 1 ws) ≡ true → b ≡ cutWord (valueOf (wordAt 0 ws)) → BenchRead ws (record { found = true; bench = b })
   bench-some b e f g = record { found-is = rw (e, f); bench-is = g }
 
--- what is cut to 32 bits fits there
-pub word-fits : (v n : ℕ) → v ≡ cutWord n → v < 4294967296
-word-fits v n e = by-cases (decLt word n) (λ l. let q = cut-high word word n l in omega (arith, e, q)) (λ l. let q = cut-low word word n (omega arith) in omega (arith, e, q))
-
 pub distance-fits : (v n : ℕ) → v ≡ cutDistance n → v < 65536
 distance-fits v n e = by-cases (decLt 65535 n) (λ l. let q = cut-high 65535 65534 n l in omega (arith, e, q)) (λ l. let q = cut-low 65535 65534 n (omega arith) in omega (arith, e, q))
 
--- ---- how many words are taken
-leading-short : (p : List ℕ → Bool) (ws : List (List ℕ)) → length (leading p ws) ≤ length ws
-unfolding leading
-leading-short p [] = omega arith
-leading-short p (w ∷ ws) = go (p w) (leading-short p ws)
-  where
-    go : (b : Bool) → length (leading p ws) ≤ length ws → length (cond b (w ∷ leading p ws) []) ≤ suc (length ws)
-    go true h = omega (arith, h)
-    go false h = omega arith
+-- ---- a bench alone
+pub withdraw-wrong : (ws : List (List ℕ)) (r : Bench) → BenchRead ws r → r .found ≡ false → (ds ps : List ℕ) (ns : List ℤ) → LineIs (benchIn (λ b. call (calls.withdraw b)) ws) ds ps ns Wrong
+withdraw-wrong ws r h miss ds ps ns = form-wrong (isNumber (wordAt 0 ws) && noMore (drop 1 ws)) _ ds ps ns (sym (h .found-is) ∙ miss)
 
-module _ {A : Type 0} (p : List ℕ → Bool) (f : List ℕ → A) (s : List ℕ) (at : ℕ) (before after : List A) (r : Taken) (t : TakenIn p f s at before after r) where
-  pub taken-front : r .count ≡ length (take (r .count) after)
-  taken-front = sym (length-take-le (r .count) after (let n = taken-size p f s at before after r t in let b = t .few in omega (arith, n, b)))
+pub report-wrong : (ws : List (List ℕ)) (r : Bench) → BenchRead ws r → r .found ≡ false → (ds ps : List ℕ) (ns : List ℤ) → LineIs (benchIn shows ws) ds ps ns Wrong
+report-wrong ws r h miss ds ps ns = form-wrong (isNumber (wordAt 0 ws) && noMore (drop 1 ws)) _ ds ps ns (sym (h .found-is) ∙ miss)
 
-  pub taken-few : length s ≤ maxLine → r .count ≤ maxWords
-  taken-few h = let a = room s at h in let b = leading-short p (wordsAt s at) in let c = t .count-is in omega (arith, a, b, c)
+bench-value : (ws : List (List ℕ)) (r : Bench) → BenchRead ws r → r .found ≡ true → r .bench ≡ cutWord (valueOf (wordAt 0 ws))
+bench-value ws r h hit = h .bench-is ∙ ap (λ (b : Bool). cond b (cutWord (valueOf (wordAt 0 ws))) 0) hit
+
+pub withdraw-right : (ws : List (List ℕ)) (r : Bench) → BenchRead ws r → r .found ≡ true → (ds ps : List ℕ) (ns : List ℤ) → LineIs (benchIn (λ b. call (calls.withdraw b)) ws) ds ps ns (Withdrawing (r .bench))
+unfolding cut
+withdraw-right ws r h hit ds ps ns = form-right (isNumber (wordAt 0 ws) && noMore (drop 1 ws)) _ ds ps ns _ (sym (h .found-is) ∙ hit) (ap (λ (b : ℕ). call (calls.withdraw b)) (bench-value ws r h hit)) tt
+
+pub report-right : (ws : List (List ℕ)) (r : Bench) → BenchRead ws r → r .found ≡ true → (ds ps : List ℕ) (ns : List ℤ) → LineIs (benchIn shows ws) ds ps ns (Reporting (r .bench))
+unfolding cut
+report-right ws r h hit ds ps ns = form-right (isNumber (wordAt 0 ws) && noMore (drop 1 ws)) _ ds ps ns _ (sym (h .found-is) ∙ hit) (ap shows (bench-value ws r h hit)) tt
+
+-- ---- the first word
+module _ (w : List ℕ) where
+  pub kind-post : same w postWord ≡ true → KindOf w kinds.Post
+  kind-post e = λ ws. rw e
+
+  module _ (post : same w postWord ≡ false) where
+    pub kind-propose : same w proposeWord ≡ true → KindOf w kinds.Propose
+    kind-propose e = λ ws. rw (post, e)
+
+    module _ (propose : same w proposeWord ≡ false) where
+      pub kind-correct : same w correctWord ≡ true → KindOf w kinds.Correct
+      kind-correct e = λ ws. rw (post, propose, e)
+
+      module _ (correct : same w correctWord ≡ false) where
+        pub kind-withdraw : same w withdrawWord ≡ true → KindOf w kinds.Withdraw
+        kind-withdraw e = λ ws. rw (post, propose, correct, e)
+
+        module _ (withdraw : same w withdrawWord ≡ false) where
+          pub kind-report : same w reportWord ≡ true → KindOf w kinds.Report
+          kind-report e = λ ws. rw (post, propose, correct, withdraw, e)
+
+          pub kind-wrong : same w reportWord ≡ false → KindOf w kinds.Wrong
+          kind-wrong e = λ ws. rw (post, propose, correct, withdraw, e)
+
+-- ---- the whole line
+no-call : false ≡ true → (s : List ℕ) → length s ≤ maxLine
+no-call e s = absurd (true≢false (sym e))
+
+pub head-long : (s : List ℕ) → maxLine < length s → HeadRead s (record { kind = kinds.Wrong; end = 0 })
+unfolding meaningOf
+head-long s h = record { means = ap (λ (b : Bool). cond b wrong (cond (isComment s) silent (ofWords (words s)))) (lt-ltb maxLine (length s) h); within = omega arith; short = λ e. no-call e s }
+
+module _ (s : List ℕ) (h : length s ≤ maxLine) where
+  short : meaningOf s ≡ cond (isComment s) silent (ofWords (words s))
+  unfolding meaningOf
+  short = ap (λ (b : Bool). cond b wrong (cond (isComment s) silent (ofWords (words s)))) (le-ltb maxLine (length s) h)
+
+  pub head-comment : (x : ℕ) → x ≡ getD s 0 0 → x ≡ 35 → HeadRead s (record { kind = kinds.Silent; end = 0 })
+  head-comment x e f = record { means = short ∙ ap (λ (b : Bool). cond b silent (ofWords (words s))) (eq-eqb (getD s 0 0) 35 (sym e ∙ f)); within = omega arith; short = λ q. no-call q s }
+
+  module _ (x : ℕ) (e : x ≡ getD s 0 0) (f : x ≡ 35 → ⊥) (w : Word) (r : WordRead s 0 w) where
+    spoken : meaningOf s ≡ ofWords (wordsAt s 0)
+    spoken = short ∙ ap (λ (b : Bool). cond b silent (ofWords (words s))) (ne-eqb (getD s 0 0) 35 (λ q. f (e ∙ q)))
+
+    pub head-blank : w .start ≡ w .end → HeadRead s (record { kind = kinds.Silent; end = w .end })
+    head-blank q = record { means = spoken ∙ go (wordsAt s 0) refl; within = r .within; short = λ z. no-call z s }
+      where
+        none : noMore (wordsAt s 0) ≡ true
+        none = sym (over-is s 0 w r) ∙ eq-eqb (w .start) (w .end) q
+
+        go : (ws : List (List ℕ)) → wordsAt s 0 ≡ ws → ofWords (wordsAt s 0) ≡ silent
+        go [] z = ap ofWords z
+        go (v ∷ vs) z = absurd (true≢false (sym none ∙ ap noMore z))
+
+    pub head-word : (w .start ≡ w .end → ⊥) → (k : Kind) → KindOf (take (w .end - w .start) (drop (w .start) s)) k → HeadRead s (record { kind = k; end = w .end })
+    head-word q k z = record {
+      means = spoken ∙ ap ofWords parts ∙ z (wordsAt s (w .end));
+      within = r .within;
+      short = λ _. h;
+    }
+      where
+        none : noMore (wordsAt s 0) ≡ false
+        none = sym (over-is s 0 w r) ∙ ne-eqb (w .start) (w .end) q
+
+        cons : (ws : List (List ℕ)) → noMore ws ≡ false → ws ≡ wordAt 0 ws ∷ drop 1 ws
+        cons [] y = absurd (true≢false y)
+        cons (v ∷ vs) y = refl
+
+        size : w .end - w .start ≡ run isLetter (drop (startAt s 0) s)
+        size = let a = r .start-is in let b = r .end-is in omega (arith, a, b)
+
+        first : take (w .end - w .start) (drop (w .start) s) ≡ wordAt 0 (wordsAt s 0)
+        first = ap₂ (λ (n m : ℕ). take n (drop m s)) size (r .start-is) ∙ first-word s 0
+
+        rest : wordsAt s (w .end) ≡ drop 1 (wordsAt s 0)
+        rest = ap (wordsAt s) (r .end-is) ∙ words-behind s 0
+
+        parts : wordsAt s 0 ≡ take (w .end - w .start) (drop (w .start) s) ∷ wordsAt s (w .end)
+        parts = cons (wordsAt s 0) none ∙ ap₂ (λ (v : List ℕ) (vs : List (List ℕ)). v ∷ vs) (sym first) (sym rest)
+
+-- the line of a kind is the line
+pub of-kind : (s : List ℕ) (r : Head) (k : Kind) (ds ps : List ℕ) (ns : List ℤ) (l : Line) → HeadRead s r → r .kind ≡ k → LineIs (ofKind k (wordsAt s (r .end))) ds ps ns l → LineIs (meaningOf s) ds ps ns l
+of-kind s r k ds ps ns l h e i = record { means = i .means ∙ ap cut (sym (h .means ∙ ap (λ (x : Kind). ofKind x (wordsAt s (r .end))) e)); within = i .within }
+
+pub silent-line : {ds ps : List ℕ} {ns : List ℤ} → LineIs silent ds ps ns Silent
+unfolding cut
+silent-line = record { means = refl; within = tt }
+
+pub wrong-line : {ds ps : List ℕ} {ns : List ℤ} → LineIs wrong ds ps ns Wrong
+unfolding cut
+wrong-line = record { means = refl; within = tt }

@@ -1,113 +1,19 @@
 // What a line means, read from its bytes: nothing, a call whose tables stand at the front of lent ones, or nothing that has a form.
+use desk_posts::Post;
 ghost use mathlib.Core.Path.{_≡_};
 ghost use mathlib.Core.List.{List};
 ghost use Prim.Native.Nat.{ℕ, _≤_};
 ghost use lib.IntN.{ℤ};
 ghost use lib.ListN.{length};
-ghost use Rattle.desk_text.specs.Meaning.{maxLine, maxWords, noMore, postIn, proposeIn, correctIn};
-ghost use Rattle.desk_text.specs.Fields.{cutWord};
+ghost use Rattle.desk_theory.specs.Desk.{withdraw};
+ghost use Rattle.desk_text.specs.Meaning.{call, shows, maxLine, maxWords, postIn, proposeIn, correctIn, benchIn, meaningOf};
 ghost use Rattle.desk_words.specs.Reads.{wordsAt};
-ghost use Rattle.desk_lines.specs.Lines.{FrontRead, BackRead, BenchRead, LineIs};
+ghost use Rattle.desk_lines.specs.Lines.{BenchRead, KindOf, HeadRead, LineIs};
 
 // The most bytes that a line may have without its end, and the most words that it can then have.
 pub const MAX_LINE: usize = 16384;
 
 pub const MAX_WORDS: usize = 8192;
-
-// What a number of 32 bits is cut at.
-const WORD: u64 = 4294967295;
-
-// A number as one of 32 bits.
-fn word(number: u64) -> u32
-    ensures { λ r. ⌜ r ≡ cutWord number ⌝ }
-{
-    desk_words::field(number, WORD, WORD) as u32
-}
-
-// Whether no word is left from a place on.
-fn over(line: &[u8], at: usize) -> bool
-    requires { ⌜ at ≤ length (now line) ⌝ }
-    ensures { λ r. ⌜ r ≡ noMore (wordsAt (now (line .entry)) at) ⌝ }
-{
-    let next = desk_words::word_at(line, at);
-    next.start == next.end
-}
-
-// What "N distances" came to: whether N is there, N, how many distances, and where they end.
-struct Front {
-    found: bool,
-    n: u32,
-    pairs: usize,
-    end: usize,
-}
-
-// N and the distances from a place on; the distances at the front of their table, in the matrix's order.
-fn distances_of(line: &[u8], at: usize, numbers: &mut [u16], distances: &mut [u16]) -> Front
-    requires { ⌜ (at ≤ length (now line)) × (length (now line) ≤ maxLine) × (maxWords ≤ length (now numbers)) × (maxWords ≤ length (now distances)) ⌝ }
-    ensures { λ r. ⌜ FrontRead (now (line .entry)) at (now (distances .exit)) r ⌝ }
-    ensures { λ _. ⌜ (length (now (numbers .exit)) ≡ length (now (numbers .entry))) × (length (now (distances .exit)) ≡ length (now (distances .entry))) ⌝ }
-{
-    let n = desk_words::number_at(line, at);
-    if !n.found {
-        return Front {
-            found: false,
-            n: 0,
-            pairs: 0,
-            end: at,
-        };
-    }
-    let strains = word(n.value);
-    let taken = desk_words::numbers(line, n.end, 65535, 65534, numbers);
-    desk_tables::lay_distances(strains, &numbers[..taken.count], distances);
-    Front {
-        found: true,
-        n: strains,
-        pairs: taken.count,
-        end: taken.end,
-    }
-}
-
-// What "/ parents" came to: whether that is all that is left of the line, and how many parents.
-struct Back {
-    found: bool,
-    edges: usize,
-}
-
-// The parents from a place on, at the front of their table.
-fn parents_of(line: &[u8], at: usize, numbers: &mut [u16], parents: &mut [u8]) -> Back
-    requires { ⌜ (at ≤ length (now line)) × (length (now line) ≤ maxLine) × (maxWords ≤ length (now numbers)) × (maxWords ≤ length (now parents)) ⌝ }
-    ensures { λ r. ⌜ BackRead (now (line .entry)) at (now (parents .exit)) r ⌝ }
-    ensures { λ _. ⌜ (length (now (numbers .exit)) ≡ length (now (numbers .entry))) × (length (now (parents .exit)) ≡ length (now (parents .entry))) ⌝ }
-{
-    let slash = desk_words::word_at(line, at);
-    let start = slash.start;
-    let end = slash.end;
-    if !desk_words::same(&line[start..end], b"/") {
-        return Back {
-            found: false,
-            edges: 0,
-        };
-    }
-    let taken = desk_words::numbers(line, end, 255, 255, numbers);
-    if !over(line, taken.end) {
-        return Back {
-            found: false,
-            edges: 0,
-        };
-    }
-    desk_tables::lay_parents(&numbers[..taken.count], parents);
-    Back {
-        found: true,
-        edges: taken.count,
-    }
-}
-
-// A posting: N, and how many distances and parents stand at the front of their tables.
-pub struct Post {
-    pub n: u32,
-    pub pairs: usize,
-    pub edges: usize,
-}
 
 // A correction.
 pub struct Correct {
@@ -134,7 +40,7 @@ pub enum Line {
 }
 
 // Behind "post".
-fn post_line(
+fn posting_line(
     line: &[u8],
     at: usize,
     numbers: &mut [u16],
@@ -143,28 +49,18 @@ fn post_line(
 ) -> Line
     requires { ⌜ (at ≤ length (now line)) × (length (now line) ≤ maxLine) × (maxWords ≤ length (now numbers)) × (maxWords ≤ length (now distances)) × (maxWords ≤ length (now parents)) ⌝ }
     ensures { λ r. ⌜ ((ns : List ℤ) → LineIs (postIn (wordsAt (now (line .entry)) at)) (now (distances .exit)) (now (parents .exit)) ns r) ⌝ }
-    ensures { λ _. ⌜ (length (now (numbers .exit)) ≡ length (now (numbers .entry))) × (length (now (distances .exit)) ≡ length (now (distances .entry))) × (length (now (parents .exit)) ≡ length (now (parents .entry))) ⌝ }
 {
-    let front = distances_of(line, at, numbers, distances);
-    if !front.found {
+    let post = desk_posts::post_line(line, at, numbers, distances, parents);
+    if !post.found {
         return Line::Wrong;
     }
-    let back = parents_of(line, front.end, numbers, parents);
-    if !back.found {
-        return Line::Wrong;
-    }
-    Line::Posting(Post {
-        n: front.n,
-        pairs: front.pairs,
-        edges: back.edges,
-    })
+    Line::Posting(post)
 }
 
 // Behind "propose".
 fn propose_line(line: &[u8], at: usize, numerators: &mut [i64]) -> Line
     requires { ⌜ (at ≤ length (now line)) × (length (now line) ≤ maxLine) × (maxWords ≤ length (now numerators)) ⌝ }
     ensures { λ r. ⌜ ((ds ps : List ℕ) → LineIs (proposeIn (wordsAt (now (line .entry)) at)) ds ps (now (numerators .exit)) r) ⌝ }
-    ensures { λ _. ⌜ length (now (numerators .exit)) ≡ length (now (numerators .entry)) ⌝ }
 {
     let bench = desk_words::number_at(line, at);
     if !bench.found {
@@ -175,12 +71,12 @@ fn propose_line(line: &[u8], at: usize, numerators: &mut [i64]) -> Line
         return Line::Wrong;
     }
     let taken = desk_words::numerators(line, d.end, numerators);
-    if !over(line, taken.end) {
+    if !desk_posts::over(line, taken.end) {
         return Line::Wrong;
     }
     Line::Proposing(Propose {
-        bench: word(bench.value),
-        d: word(d.value),
+        bench: desk_posts::word(bench.value),
+        d: desk_posts::word(d.value),
         count: taken.count,
     })
 }
@@ -202,12 +98,12 @@ fn correct_line(line: &[u8], at: usize) -> Line
     if !far.found {
         return Line::Wrong;
     }
-    if !over(line, far.end) {
+    if !desk_posts::over(line, far.end) {
         return Line::Wrong;
     }
     Line::Correcting(Correct {
-        i: word(i.value),
-        j: word(j.value),
+        i: desk_posts::word(i.value),
+        j: desk_posts::word(j.value),
         far: desk_words::field(far.value, 65535, 65534) as u16,
     })
 }
@@ -230,7 +126,7 @@ fn bench_of(line: &[u8], at: usize) -> Bench
             bench: 0,
         };
     }
-    if !over(line, bench.end) {
+    if !desk_posts::over(line, bench.end) {
         return Bench {
             found: false,
             bench: 0,
@@ -238,6 +134,123 @@ fn bench_of(line: &[u8], at: usize) -> Bench
     }
     Bench {
         found: true,
-        bench: word(bench.value),
+        bench: desk_posts::word(bench.value),
+    }
+}
+
+// Behind "withdraw".
+fn withdraw_line(line: &[u8], at: usize) -> Line
+    requires { ⌜ at ≤ length (now line) ⌝ }
+    ensures { λ r. ⌜ ((ds ps : List ℕ) (ns : List ℤ) → LineIs (benchIn (λ b. call (withdraw b)) (wordsAt (now (line .entry)) at)) ds ps ns r) ⌝ }
+{
+    let read = bench_of(line, at);
+    if !read.found {
+        return Line::Wrong;
+    }
+    Line::Withdrawing(read.bench)
+}
+
+// Behind "report".
+fn report_line(line: &[u8], at: usize) -> Line
+    requires { ⌜ at ≤ length (now line) ⌝ }
+    ensures { λ r. ⌜ ((ds ps : List ℕ) (ns : List ℤ) → LineIs (benchIn shows (wordsAt (now (line .entry)) at)) ds ps ns r) ⌝ }
+{
+    let read = bench_of(line, at);
+    if !read.found {
+        return Line::Wrong;
+    }
+    Line::Reporting(read.bench)
+}
+
+// What a line is by its first word.
+enum Kind {
+    Silent,
+    Wrong,
+    Post,
+    Propose,
+    Correct,
+    Withdraw,
+    Report,
+}
+
+fn kind_of(word: &[u8]) -> Kind
+    ensures { λ r. ⌜ KindOf (now (word .entry)) r ⌝ }
+{
+    if desk_words::same(word, b"post") {
+        return Kind::Post;
+    }
+    if desk_words::same(word, b"propose") {
+        return Kind::Propose;
+    }
+    if desk_words::same(word, b"correct") {
+        return Kind::Correct;
+    }
+    if desk_words::same(word, b"withdraw") {
+        return Kind::Withdraw;
+    }
+    if desk_words::same(word, b"report") {
+        return Kind::Report;
+    }
+    Kind::Wrong
+}
+
+// The kind of a line, and where its first word ends.
+struct Head {
+    kind: Kind,
+    end: usize,
+}
+
+fn head_of(line: &[u8]) -> Head
+    ensures { λ r. ⌜ HeadRead (now (line .entry)) r ⌝ }
+{
+    if line.len() > MAX_LINE {
+        return Head {
+            kind: Kind::Wrong,
+            end: 0,
+        };
+    }
+    if digits::byte_at(line, 0) == 35 {
+        return Head {
+            kind: Kind::Silent,
+            end: 0,
+        };
+    }
+    let first = desk_words::word_at(line, 0);
+    let start = first.start;
+    let end = first.end;
+    if start == end {
+        return Head {
+            kind: Kind::Silent,
+            end,
+        };
+    }
+    Head {
+        kind: kind_of(&line[start..end]),
+        end,
+    }
+}
+
+// What a line means; its tables stand at the front of the lent ones.
+pub fn read_line(
+    line: &[u8],
+    numbers: &mut [u16],
+    distances: &mut [u16],
+    parents: &mut [u8],
+    numerators: &mut [i64],
+) -> Line
+    requires { ⌜ (maxWords ≤ length (now numbers)) × (maxWords ≤ length (now distances)) × (maxWords ≤ length (now parents)) × (maxWords ≤ length (now numerators)) ⌝ }
+    ensures { λ r. ⌜ LineIs (meaningOf (now (line .entry))) (now (distances .exit)) (now (parents .exit)) (now (numerators .exit)) r ⌝ }
+{
+    let found = head_of(line);
+    let kind = found.kind;
+    let at = found.end;
+    match kind {
+        Kind::Silent => Line::Silent,
+        Kind::Wrong => Line::Wrong,
+        Kind::Post => posting_line(line, at, numbers, distances, parents),
+        Kind::Propose => propose_line(line, at, numerators),
+        Kind::Correct => correct_line(line, at),
+        Kind::Withdraw => withdraw_line(line, at),
+        Kind::Report => report_line(line, at),
     }
 }

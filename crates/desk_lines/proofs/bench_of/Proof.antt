@@ -10,7 +10,8 @@ use Rattle.desk_text.specs.Words.{isNumber, valueOf}
 use Rattle.desk_text.specs.Meaning.{noMore, wordAt}
 use Rattle.desk_text.specs.Fields.{word, cutWord}
 use Rattle.desk_words.specs.Reads.{wordsAt}
-use Rattle.desk_lines.proofs.Lining.{field-found, field-value, field-next, bench-none, bench-more, bench-some}
+use Rattle.desk_posts.proofs.Lining.{field-found, field-value, field-next}
+use Rattle.desk_lines.proofs.Lining.{bench-none, bench-more, bench-some}
 use borrow.Author.Needs.{needs}
 use Rattle.desk_lines.proofs.bench_of.Statement.{statement}
 use Rattle.desk_lines.proofs.bench_of.Tie as tie

@@ -10,7 +10,8 @@ use Rattle.desk_text.specs.Words.{isNumber, valueOf}
 use Rattle.desk_text.specs.Meaning.{noMore, wordAt}
 use Rattle.desk_text.specs.Fields.{word, cutWord, cutDistance}
 use Rattle.desk_words.specs.Reads.{wordsAt}
-use Rattle.desk_lines.proofs.Lining.{field-found, field-value, field-next, distance-fits, correct-no-i, correct-no-j, correct-no-far, correct-more, correct-some}
+use Rattle.desk_posts.proofs.Lining.{field-found, field-value, field-next}
+use Rattle.desk_lines.proofs.Lining.{distance-fits, correct-no-i, correct-no-j, correct-no-far, correct-more, correct-some}
 use borrow.Author.Needs.{needs}
 use Rattle.desk_lines.proofs.correct_line.Statement.{statement}
 use Rattle.desk_lines.proofs.correct_line.Tie as tie

@@ -3,10 +3,10 @@ use mathlib.Core.Path.{_≡_, refl, sym, _∙_}
 use native.Mathlib.Omega.{arith}
 use borrow.Author.Tests.{not-true, not-false}
 use Rattle.desk_text.specs.Words.{isNumber}
-use Rattle.desk_lines.proofs.Lining.{room, taken-front, taken-few, taken-size, back-none, back-more, back-bytes, back-some}
+use Rattle.desk_posts.proofs.Lining.{room, taken-front, taken-few, back-none, back-more, back-bytes, back-some}
 use borrow.Author.Needs.{needs}
-use Rattle.desk_lines.proofs.parents_of.Statement.{statement}
-use Rattle.desk_lines.proofs.parents_of.Tie as tie
+use Rattle.desk_posts.proofs.parents_of.Statement.{statement}
+use Rattle.desk_posts.proofs.parents_of.Tie as tie
 
 word-at-requires : tie.Need-word-at-requires
 word-at-requires c κs = search needs
@@ -27,7 +27,7 @@ same-requires : tie.Need-same-requires
 same-requires c κs = search needs
 
 returns : tie.Need-returns
-returns c = (back-none _ _ _ (c .before .before .before .before .word-at .ensures) _ (c .before .same .ensures) _ (not-true _ (c .if1 .taken)), (refl, refl))
+returns c = back-none _ _ _ (c .before .before .before .before .word-at .ensures) _ (c .before .same .ensures) _ (not-true _ (c .if1 .taken))
 
 numbers-requires : tie.Need-numbers-requires
 numbers-requires c κs = let p = c .before .before .before .before .before .before .before .before .before .pre in (c .before .before .before .before .before .word-at .ensures .within, let n = room (c .before .before .before .before .before .before .before .before .before .args .line .now) (c .before .before .before .before .before .word-at .result .end) (p .1) in omega (arith, n, p .2))
@@ -40,7 +40,7 @@ same-length c = search needs
 
 returns-2 : tie.Need-returns-2
 returns-2 c = let t = c .before .before .before .before .numbers .ensures in
-    (back-more _ _ _ (c .before .before .before .before .before .before .before .before .before .before .word-at .ensures) _ (c .before .before .before .before .before .before .before .same .ensures) (not-false _ (c .before .before .before .before .before .before .if1 .left)) _ _ _ t _ (c .before .over .ensures) _ (not-true _ (c .if2 .taken)), (taken-size isNumber _ _ _ _ _ _ t, refl))
+    back-more _ _ _ (c .before .before .before .before .before .before .before .before .before .before .word-at .ensures) _ (c .before .before .before .before .before .before .before .same .ensures) (not-false _ (c .before .before .before .before .before .before .if1 .left)) _ _ _ t _ (c .before .over .ensures) _ (not-true _ (c .if2 .taken))
 
 slice-reshare-prefix-lay-parents : tie.Need-slice-reshare-prefix-lay-parents
 slice-reshare-prefix-lay-parents c = search needs
@@ -59,10 +59,8 @@ same-length-3 : tie.Need-same-length-3
 same-length-3 c = search needs
 
 returns-3 : tie.Need-returns-3
-returns-3 c = let t = c .before .before .before .before .before .before .before .before .before .numbers .ensures in let m = taken-few isNumber _ _ _ _ _ _ t (c .before .before .before .before .before .before .before .before .before .before .before .before .before .before .before .before .before .before .before .pre .1) in (
-  back-some _ _ _ (c .before .before .before .before .before .before .before .before .before .before .before .before .before .before .before .word-at .ensures) _ (c .before .before .before .before .before .before .before .before .before .before .before .before .same .ensures) (not-false _ (c .before .before .before .before .before .before .before .before .before .before .before .if1 .left)) _ _ _ t _ (c .before .before .before .before .before .before .over .ensures) _ _ (not-false _ (c .before .before .before .before .before .if2 .left)) (c .before .before .lay-parents .ensures) (omega (arith, m, c .before .before .before .before .before .before .before .before .before .before .before .before .before .before .before .before .before .before .before .pre .3)),
-  (taken-size isNumber _ _ _ _ _ _ t, c .before .before .lay-parents .ensures .size),
-)
+returns-3 c = let t = c .before .before .before .before .before .before .before .before .before .numbers .ensures in let m = taken-few isNumber _ _ _ _ _ _ t (c .before .before .before .before .before .before .before .before .before .before .before .before .before .before .before .before .before .before .before .pre .1) in
+    back-some _ _ _ (c .before .before .before .before .before .before .before .before .before .before .before .before .before .before .before .word-at .ensures) _ (c .before .before .before .before .before .before .before .before .before .before .before .before .same .ensures) (not-false _ (c .before .before .before .before .before .before .before .before .before .before .before .if1 .left)) _ _ _ t _ (c .before .before .before .before .before .before .over .ensures) _ _ (not-false _ (c .before .before .before .before .before .if2 .left)) (c .before .before .lay-parents .ensures) (omega (arith, m, c .before .before .before .before .before .before .before .before .before .before .before .before .before .before .before .before .before .before .before .pre .3))
 
 pub parents-of-spec : {M : Type 1} → statement M
 parents-of-spec =

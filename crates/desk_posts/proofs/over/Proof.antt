@@ -1,8 +1,8 @@
 -- No word begins where the next would.
-use Rattle.desk_lines.proofs.Lining.{over-is}
+use Rattle.desk_posts.proofs.Lining.{over-is}
 use borrow.Author.Needs.{needs}
-use Rattle.desk_lines.proofs.over.Statement.{statement}
-use Rattle.desk_lines.proofs.over.Tie as tie
+use Rattle.desk_posts.proofs.over.Statement.{statement}
+use Rattle.desk_posts.proofs.over.Tie as tie
 
 word-at-requires : tie.Need-word-at-requires
 word-at-requires c κs = search needs

@@ -3,16 +3,16 @@ use mathlib.Core.Path.{_≡_, refl, sym, _∙_}
 use native.Mathlib.Omega.{arith}
 use borrow.Author.Tests.{not-true, not-false}
 use Rattle.desk_text.specs.Words.{isNumber}
-use Rattle.desk_lines.proofs.Lining.{room, taken-front, taken-few, taken-size, front-none, front-some}
+use Rattle.desk_posts.proofs.Lining.{room, taken-front, taken-few, front-none, front-some}
 use borrow.Author.Needs.{needs}
-use Rattle.desk_lines.proofs.distances_of.Statement.{statement}
-use Rattle.desk_lines.proofs.distances_of.Tie as tie
+use Rattle.desk_posts.proofs.distances_of.Statement.{statement}
+use Rattle.desk_posts.proofs.distances_of.Tie as tie
 
 number-at-requires : tie.Need-number-at-requires
 number-at-requires c κs = search needs
 
 returns : tie.Need-returns
-returns c = (front-none _ _ _ (c .before .before .number-at .ensures) _ (c .before .before .before .before .before .before .pre .0) (not-true _ (c .if1 .taken)), (refl, refl))
+returns c = front-none _ _ _ (c .before .before .number-at .ensures) _ (c .before .before .before .before .before .before .pre .0) (not-true _ (c .if1 .taken))
 
 word-requires : tie.Need-word-requires
 word-requires c κs = search needs
@@ -37,7 +37,7 @@ same-length-2 c = search needs
 
 returns-2 : tie.Need-returns-2
 returns-2 c = let t = c .before .before .before .before .before .before .before .numbers .ensures in let m = taken-few isNumber _ _ _ _ _ _ t (c .before .before .before .before .before .before .before .before .before .before .before .before .before .before .before .before .pre .1) in
-    (front-some _ _ _ (c .before .before .before .before .before .before .before .before .before .before .before .before .number-at .ensures) (not-false _ (c .before .before .before .before .before .before .before .before .before .before .if1 .left)) _ (c .before .before .before .before .before .before .before .before .before .word .ensures) _ _ _ t _ _ (c .before .before .lay-distances .ensures) (omega (arith, m, c .before .before .before .before .before .before .before .before .before .before .before .before .before .before .before .before .pre .3)), (taken-size isNumber _ _ _ _ _ _ t, c .before .before .lay-distances .ensures .size))
+    front-some _ _ _ (c .before .before .before .before .before .before .before .before .before .before .before .before .number-at .ensures) (not-false _ (c .before .before .before .before .before .before .before .before .before .before .if1 .left)) _ (c .before .before .before .before .before .before .before .before .before .word .ensures) _ _ _ t _ _ (c .before .before .lay-distances .ensures) (omega (arith, m, c .before .before .before .before .before .before .before .before .before .before .before .before .before .before .before .before .pre .3))
 
 pub distances-of-spec : {M : Type 1} → statement M
 distances-of-spec =

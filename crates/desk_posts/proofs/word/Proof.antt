@@ -1,8 +1,8 @@
 -- What is cut fits.
-use Rattle.desk_lines.proofs.Lining.{word-fits}
+use Rattle.desk_posts.proofs.Lining.{word-fits}
 use borrow.Author.Needs.{needs}
-use Rattle.desk_lines.proofs.word.Statement.{statement}
-use Rattle.desk_lines.proofs.word.Tie as tie
+use Rattle.desk_posts.proofs.word.Statement.{statement}
+use Rattle.desk_posts.proofs.word.Tie as tie
 
 field-requires : tie.Need-field-requires
 field-requires c κs = search needs
