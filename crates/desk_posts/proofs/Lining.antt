@@ -195,7 +195,7 @@ pub word-fits : (v n : ℕ) → v ≡ cutWord n → v < 4294967296
 word-fits v n e = by-cases (decLt word n) (λ l. let q = cut-high word word n l in omega (arith, e, q)) (λ l. let q = cut-low word word n (omega arith) in omega (arith, e, q))
 
 -- ---- how many words are taken
-leading-short : (p : List ℕ → Bool) (ws : List (List ℕ)) → length (leading p ws) ≤ length ws
+pub leading-short : (p : List ℕ → Bool) (ws : List (List ℕ)) → length (leading p ws) ≤ length ws
 unfolding leading
 leading-short p [] = omega arith
 leading-short p (w ∷ ws) = go (p w) (leading-short p ws)

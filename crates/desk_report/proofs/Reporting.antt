@@ -3,12 +3,12 @@ use mathlib.Core.Path.{_≡_, refl, sym, _∙_, ap, subst}
 use mathlib.Core.Bool.{Bool, true, false, not}
 use mathlib.Core.List.{List}
 use mathlib.Core.Logic.{_≢_}
-use Prim.Native.Nat.{ℕ}
+use Prim.Native.Nat.{ℕ, _≤_}
 use native.Mathlib.Omega.{arith}
 use borrow.Author.Tests.{eq-eqb, ne-eqb}
 use lib.Dec.{eqb}
 use lib.IntN.{ℤ}
-use lib.ListN.{length}
+use lib.ListN.{length, length-take}
 use lib.Seq.{length-take-le}
 use Rattle.verdict.specs.Answer.{Answer, pass, fault, answerOf, refusalOf, test, _orElse_}
 use Rattle.verdict.specs.declared.Place.the-variants.{Nowhere}
@@ -16,7 +16,9 @@ use Rattle.verdict.specs.declared.Refusal.{Refusal}
 use Rattle.verdict.specs.declared.Verdict.{Verdict}
 use Rattle.verdict.specs.declared.Verdict.the-variants.{Accepted, Refused}
 use Rattle.verdict.specs.declared.Rule.the-variants.{Plain}
-use Rattle.verdict.proofs.Answers.{refused-row, accepted-row, not-pass}
+use Rattle.verdict.proofs.Answers.{refused-row, accepted-row, not-pass, passes}
+use Rattle.exact.proofs.Decide.{by-cases}
+use Rattle.tree_theory.specs.Limits.{maxEdges}
 use Rattle.fit_theory.specs.Tests.{bufferOut}
 use Rattle.reporting.specs.declared.FitReport.{FitReport}
 use Rattle.reporting.specs.Answers.{Reported, Silent}
@@ -70,3 +72,9 @@ module _ (d : Desk) (b : ℕ) (before : List ℤ) (v : Verdict) (g : answerOf v 
           silent = λ n. absurd (n (sym fine));
           kept = λ n. absurd (n (sym fine));
         }
+
+-- a report has at most as many edges as a tree may have
+pub few-edges : (d : Desk) (b : ℕ) (before after : List ℤ) (x : FitReport) → Held d → DeskReport d b before after x → x .edges ≤ maxEdges
+few-edges d b before after x h r = by-cases (passes (calls.answer (deskOf d) (calls.report b (length before))))
+    (λ e. omega (arith, r .reported e .edges, length-take (d .posting .edges) (d .posting .parents), h .posting .few-edges))
+    (λ n. omega (arith, r .silent n .edges))

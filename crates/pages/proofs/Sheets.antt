@@ -26,21 +26,9 @@ use Rattle.reporting.specs.Answers.{Reported}
 use Rattle.sheet.specs.declared.SheetFit.{SheetFit}
 use Rattle.sheet.specs.Reports.{Fitted, SheetReport}
 use Rattle.answer_lines.specs.Texts.{reportText}
+use Rattle.answer_lines.proofs.Fits.{report-is}
 use Rattle.pages.specs.Texts.{fitOfSheet, sheetText, Shown}
 use Rattle.pages.proofs.Texts.{text-by-answer, fits-page, whole-page}
-
--- rows that agree at the edges have the same lines
-pub rows-cong : (K : ℕ) (row row′ : ℕ → List ℤ) → ((v : ℕ) → v < K → row v ≡ row′ v) → edgeLines K row ≡ edgeLines K row′
-unfolding edgeLines
-rows-cong zero row row′ f = refl
-rows-cong (suc K) row row′ f = ap₂ _++_ (rows-cong K row row′ (λ v l. f v (omega arith))) (ap (λ (r : List ℤ). line edgeWord (pos K ∷ r)) (f K (omega arith)))
-
-fit-cong : (rule : Rule) (N K D : ℕ) (n n′ m m′ : ℕ → ℤ) (total F R H : ℤ) (mean : Mean) → ((v : ℕ) → v < K → n v ≡ n′ v) → ((v : ℕ) → v < K → m v ≡ m′ v)
-    → fitText rule N K D n m total F R H mean ≡ fitText rule N K D n′ m′ total F R H mean
-unfolding fitText
-fit-cong rule N K D n n′ m m′ total F R H mean f g =
-    ap (λ (e : List ℕ). line (fitWord rule) (pos N ∷ pos K ∷ pos D ∷ []) ++ (e ++ (line lengthWord (total ∷ []) ++ (line squareWord (F ∷ R ∷ H ∷ []) ++ meanLine F mean))))
-    (rows-cong K (λ v. n v ∷ m v ∷ []) (λ v. n′ v ∷ m′ v ∷ []) (λ v l. ap₂ (λ (a b : ℤ). a ∷ b ∷ []) (f v l) (g v l)))
 
 module _ (rule : Rule) (s : List ℕ) (x : SheetFit) (a : SheetReport rule s x) where
   module _ (z : sheetTests rule s ≡ pass) where
@@ -48,13 +36,7 @@ module _ (rule : Rule) (s : List ℕ) (x : SheetFit) (a : SheetReport rule s x) 
     fit = a .fitted z
 
     text-is : fitText rule (x .report .strains) (x .report .edges) (x .report .denominator) (entryOf (x .numerators)) (entryOf (x .rounded)) (x .report .length) (x .report .f) (x .report .r) (x .report .h) (x .report .mean) ≡ fitOfSheet rule s
-    text-is = let p = fit .reported in
-        ap₂ (λ (N K : ℕ). fitText rule N K (x .report .denominator) (entryOf (x .numerators)) (entryOf (x .rounded)) (x .report .length) (x .report .f) (x .report .r) (x .report .h) (x .report .mean)) (p .strains) (p .edges)
-        ∙ ap (λ (D : ℕ). fitText rule (strainsOf s) (length (parentsOf s)) D (entryOf (x .numerators)) (entryOf (x .rounded)) (x .report .length) (x .report .f) (x .report .r) (x .report .h) (x .report .mean)) (p .denominator)
-        ∙ fit-cong rule (strainsOf s) (length (parentsOf s)) (denominatorOf s) (entryOf (x .numerators)) (entryOf (numeratorsOf s)) (entryOf (x .rounded)) (roundedOf (denominatorOf s) (numeratorsOf s)) (x .report .length) (x .report .f) (x .report .r) (x .report .h) (x .report .mean) (fit .numerators .entries) (fit .rounded .entries)
-        ∙ ap₂ (λ (t F : ℤ). fitText rule (strainsOf s) (length (parentsOf s)) (denominatorOf s) (entryOf (numeratorsOf s)) (roundedOf (denominatorOf s) (numeratorsOf s)) t F (x .report .r) (x .report .h) (x .report .mean)) (p .total) (p .f)
-        ∙ ap₂ (λ (R H : ℤ). fitText rule (strainsOf s) (length (parentsOf s)) (denominatorOf s) (entryOf (numeratorsOf s)) (roundedOf (denominatorOf s) (numeratorsOf s)) (treeLength (numeratorsOf s)) (fOf (strainsOf s) (distancesOf s) (parentsOf s) (denominatorOf s) (numeratorsOf s)) R H (x .report .mean)) (p .r) (p .h)
-        ∙ ap (λ (m : Mean). fitText rule (strainsOf s) (length (parentsOf s)) (denominatorOf s) (entryOf (numeratorsOf s)) (roundedOf (denominatorOf s) (numeratorsOf s)) (treeLength (numeratorsOf s)) (fOf (strainsOf s) (distancesOf s) (parentsOf s) (denominatorOf s) (numeratorsOf s)) (rOf (strainsOf s) (distancesOf s) (parentsOf s) (denominatorOf s) (numeratorsOf s)) (hOf (strainsOf s) (distancesOf s) (parentsOf s)) m) (p .mean)
+    text-is = report-is rule (strainsOf s) (distancesOf s) (parentsOf s) (denominatorOf s) (numeratorsOf s) _ (x .report) (fit .reported) (entryOf (x .numerators)) (entryOf (x .rounded)) (fit .numerators .entries) (fit .rounded .entries)
 
     edges-few : length (parentsOf s) ≤ maxEdges
     edges-few = fit .reported .stands .lengths .few

@@ -22,7 +22,7 @@ use Rattle.unfitted_sheet.specs.Fits.{unfittedTests, Fitted, UnfittedAnswer}
 use Rattle.answer_lines.specs.Texts.{directText}
 use Rattle.pages.specs.Texts.{fitOfUnfitted, unfittedText, Shown}
 use Rattle.pages.proofs.Texts.{text-by-answer, fits-page, whole-page}
-use Rattle.pages.proofs.Sheets.{rows-cong}
+use Rattle.answer_lines.proofs.Fits.{rows-cong}
 
 fit-cong : (N K : ℕ) (n n′ : ℕ → ℤ) (d d′ : ℕ → ℕ) (m m′ : ℕ → ℤ) (R H : ℤ) → ((v : ℕ) → v < K → n v ≡ n′ v) → ((v : ℕ) → v < K → d v ≡ d′ v) → ((v : ℕ) → v < K → m v ≡ m′ v)
     → resolvedText N K n d m R H ≡ resolvedText N K n′ d′ m′ R H

@@ -3,27 +3,20 @@ use mathlib.Core.Path.{_≡_}
 use mathlib.Core.List.{List}
 use Prim.Native.Nat.{ℕ, _≤_, _<_}
 use lib.ListN.{length}
-use Rattle.exact.specs.Table.{entryOf}
 use Rattle.verdict.specs.declared.Rule.{Rule}
-use Rattle.mean.specs.Mean.{meanOf}
-use Rattle.fit_theory.specs.Quantities.{treeLength, fOf, rOf, hOf, roundedOf}
+use Rattle.fit_theory.specs.Quantities.{hOf}
 use Rattle.direct_theory.specs.Lengths.{topOf, bottomOf, thousandthOf, squareOf}
 use Rattle.writing.specs.Text.{Wrote}
-use Rattle.lines.specs.Lines.{fitText, resolvedText}
+use Rattle.lines.specs.Lines.{resolvedText}
 use Rattle.lines.specs.Page.{pageSize}
 use Rattle.reading.specs.Holds.{strainsOf, distancesOf, parentsOf, denominatorOf, numeratorsOf}
 use Rattle.reading.specs.Tests.{sheetTests}
 use Rattle.unfitted_sheet.specs.Fits.{unfittedTests}
-use Rattle.answer_lines.specs.Texts.{byAnswer}
+use Rattle.answer_lines.specs.Texts.{byAnswer, fitOf}
 
--- fit or fit0, N K D; edge, n, m for each edge; the tree length's numerator; F, R, H; the mean square
+-- the print of what an accepted sheet holds
 abbrev pub fitOfSheet : Rule → List ℕ → List ℕ
-fitOfSheet rule s =
-    fitText rule (strainsOf s) (length (parentsOf s)) (denominatorOf s) (entryOf (numeratorsOf s)) (roundedOf (denominatorOf s) (numeratorsOf s)) (treeLength (numeratorsOf s))
-    (fOf (strainsOf s) (distancesOf s) (parentsOf s) (denominatorOf s) (numeratorsOf s))
-    (rOf (strainsOf s) (distancesOf s) (parentsOf s) (denominatorOf s) (numeratorsOf s))
-    (hOf (strainsOf s) (distancesOf s) (parentsOf s))
-    (meanOf (strainsOf s) (distancesOf s) (length (parentsOf s)) (denominatorOf s))
+fitOfSheet rule s = fitOf rule (strainsOf s) (distancesOf s) (parentsOf s) (denominatorOf s) (numeratorsOf s)
 
 -- the print of a sheet by a rule
 abbrev pub sheetText : Rule → List ℕ → List ℕ

@@ -4,7 +4,7 @@ use native.Mathlib.Omega.{arith}
 use lib.ListN.{length}
 use lib.Seq.{length-take-le}
 use Rattle.exact.proofs.Fill.{length-table}
-use Rattle.desk_calls.proofs.Within.{few}
+use Rattle.desk_report.proofs.Reporting.{few-edges}
 use Rattle.writing.proofs.Writing.{wrote-within}
 use borrow.Author.Needs.{needs}
 use Rattle.desk_calls.proofs.reported.Statement.{statement}
@@ -33,7 +33,7 @@ slice-aggregate-report-text c = search needs
 
 report-text-requires : tie.Need-report-text-requires
 report-text-requires c κs = let p = c .before .before .before .before .before .before .before .before in
-    (few (p .args .desk) (p .args .bench) _ _ _ (p .pre .0) (c .before .before .before .before .before .report .ensures), omega (arith, ap length (c .before .page .ensures)))
+    (few-edges (p .args .desk) (p .args .bench) _ _ _ (p .pre .0) (c .before .before .before .before .before .report .ensures), omega (arith, ap length (c .before .page .ensures)))
 
 slice-aggregate-put-out : tie.Need-slice-aggregate-put-out
 slice-aggregate-put-out c = search needs
