@@ -1,14 +1,12 @@
 -- The text that a report is shown by is that of the bench's table on what is posted (`shown-is`); a call's step gives the answer to a line
 -- that is one (`steps-respond`); and the numbers of a line may be cut to their fields first (`line-told`).
 use mathlib.Core.Path.{_≡_, refl, sym, _∙_, ap, ap₂, subst}
-use mathlib.Core.Bool.{Bool, true, false, cond, _&&_}
-use mathlib.Core.List.{List, [], _∷_, _++_, map}
+use mathlib.Core.Bool.{Bool, true, false, cond}
+use mathlib.Core.List.{List, [], _∷_, _++_}
 use Prim.Native.Nat.{ℕ, zero, suc, _≤_, _<_}
 use native.Mathlib.Omega.{arith}
-use lib.Dec.{ltb}
-use borrow.Author.Tests.{ltb-false}
 use lib.IntN.{ℤ, pos}
-use lib.ListN.{length, length-map, length-drop, getD, take, drop}
+use lib.ListN.{length, getD, take}
 use lib.Seq.{length-take-le, getD-take}
 use Rattle.exact.specs.Table.{table, entryOf}
 use Rattle.exact.proofs.Fill.{length-table, getD-table}
@@ -23,27 +21,21 @@ use Rattle.lines.specs.Lines.{fitText}
 use Rattle.reporting.specs.declared.FitReport.{FitReport}
 use Rattle.answer_lines.specs.Texts.{byAnswer, reportText}
 use Rattle.answer_lines.proofs.Fits.{report-is}
-use Rattle.digits.specs.Digits.{same}
 use Rattle.desk_theory.specs.Desk as calls
 use Rattle.desk_theory.specs.Promises.{PostedWell}
-use Rattle.desk_text.specs.Words.{words, isNumber, valueOf, isSigned, signedOf, leading, behind}
-use Rattle.desk_text.specs.Meaning.{Meaning, silent, wrong, call, shows, postWord, proposeWord, correctWord, withdrawWord, reportWord, slash, noMore, ofForm, postIn, parentsIn, proposeIn, correctIn, benchIn, byStrains, meaningOf, ofWords, isComment, maxLine, maxWords, wordAt}
+use Rattle.desk_text.specs.Meaning.{Meaning, call}
 use Rattle.desk_text.specs.Fields.{cut}
-use Rattle.desk_text.proofs.Cutting.{Few, cut-answer, cut-step, cut-same}
-use Rattle.desk_text.proofs.Splitting.{few-words}
-use Rattle.desk_tables.proofs.Laying.{strains-size}
-use Rattle.desk_posts.proofs.Lining.{leading-short}
 use Rattle.desk.specs.declared.Desk.{Desk}
 use Rattle.desk.specs.declared.Answered.{Answered}
 use Rattle.desk.specs.declared.Bench.{Bench}
-use Rattle.desk.specs.Held.{matrixOf, treeOf, numeratorsOf, postingOf, tableOf, deskOf, benchTable, standingTests, Held, Steps}
+use Rattle.desk.specs.Held.{matrixOf, treeOf, numeratorsOf, postingOf, deskOf, benchTable, standingTests, Held, Steps}
 use Rattle.desk.proofs.Holding.{report-asked, standing-passed, bench-named}
 use Rattle.desk_report.specs.Reports.{DeskReport}
 use Rattle.desk_posts.specs.declared.Post.{Post}
 use Rattle.desk_lines.specs.declared.Propose.{Propose}
 use Rattle.desk_lines.specs.declared.Line.{Line}
 use Rattle.desk_lines.specs.declared.Line.the-variants.{Posting, Proposing}
-use Rattle.desk_lines.specs.Lines.{asMeaning, Within, LineIs}
+use Rattle.desk_lines.specs.Lines.{asMeaning, Within}
 use Rattle.desk_answers.specs.Telling.{okLine, edgesOf, tableText, showText, textOn, afterOn, Responds}
 use Rattle.desk_answers.specs.declared.Told.{Told}
 
@@ -53,7 +45,7 @@ getD-front [] ys v h = absurd (omega arith)
 getD-front (x ∷ xs) ys zero h = refl
 getD-front (x ∷ xs) ys (suc v) h = getD-front xs ys v (omega arith)
 
-by-answer-cong : (a b : Answer) (s t : List ℕ) → a ≡ b → (b ≡ pass → s ≡ t) → byAnswer a s ≡ byAnswer b t
+pub by-answer-cong : (a b : Answer) (s t : List ℕ) → a ≡ b → (b ≡ pass → s ≡ t) → byAnswer a s ≡ byAnswer b t
 by-answer-cong a pass s t e h = ap (λ (x : Answer). byAnswer x s) e ∙ h refl
 by-answer-cong a (fault k p) s t e h = ap (λ (x : Answer). byAnswer x s) e
 
@@ -125,88 +117,6 @@ nothing-said b = record { place = refl; buffer = refl }
 pub desk-left : (d : Desk) (m : Meaning) (before after : List ℕ) (n : ℕ) → Held d → afterOn (deskOf d) m ≡ deskOf d → Wrote before after 0 (textOn (deskOf d) m) n
     → Responds d m before after (record { desk = d; length = n })
 desk-left d m before after n h e w = record { text = w; desk = sym e; held = h }
-
--- ---- cutting
-abbrev FewIn : Meaning → Type 0
-FewIn silent = Unit {0}
-FewIn wrong = Unit {0}
-FewIn (call c) = Few c
-FewIn (shows b) = Unit {0}
-
-form-few : (b : Bool) (m : Meaning) → FewIn m → FewIn (ofForm b m)
-form-few true m h = h
-form-few false m h = tt
-
-either-few : (b : Bool) (m n : Meaning) → FewIn m → FewIn n → FewIn (cond b m n)
-either-few true m n h g = h
-either-few false m n h g = g
-
--- so many distances as a line's words allow
-rows-few : (N : ℕ) (ws : List (List ℕ)) → length ws ≤ maxWords → length (byStrains N (map valueOf (leading isNumber (drop 1 ws)))) ≤ maxWords
-rows-few N ws h = let a = strains-size N (map valueOf (leading isNumber (drop 1 ws))) in let b = length-map (leading isNumber (drop 1 ws)) valueOf in
-    let c = leading-short isNumber (drop 1 ws) in let e = length-drop 1 ws in omega (arith, a, b, c, e, h)
-
-module _ (ws : List (List ℕ)) where
-  post-few : length ws ≤ maxWords → FewIn (postIn ws)
-  post-few h = form-few (isNumber (wordAt 0 ws)) (parentsIn (valueOf (wordAt 0 ws)) (map valueOf (leading isNumber (drop 1 ws))) (behind isNumber (drop 1 ws)))
-      (form-few (same (wordAt 0 (behind isNumber (drop 1 ws))) slash && noMore (behind isNumber (drop 1 (behind isNumber (drop 1 ws)))))
-      (call (calls.post (valueOf (wordAt 0 ws)) (byStrains (valueOf (wordAt 0 ws)) (map valueOf (leading isNumber (drop 1 ws)))) (map valueOf (leading isNumber (drop 1 (behind isNumber (drop 1 ws)))))))
-      (rows-few (valueOf (wordAt 0 ws)) ws h))
-
-  propose-few : FewIn (proposeIn ws)
-  propose-few = form-few (isNumber (wordAt 0 ws) && (isNumber (wordAt 1 ws) && noMore (behind isSigned (drop 2 ws))))
-      (call (calls.propose (valueOf (wordAt 0 ws)) (valueOf (wordAt 1 ws)) (map signedOf (leading isSigned (drop 2 ws))))) tt
-
-  correct-few : FewIn (correctIn ws)
-  correct-few = form-few (isNumber (wordAt 0 ws) && (isNumber (wordAt 1 ws) && (isNumber (wordAt 2 ws) && noMore (drop 3 ws))))
-      (call (calls.correct (record { i = valueOf (wordAt 0 ws); j = valueOf (wordAt 1 ws); far = valueOf (wordAt 2 ws) }))) tt
-
-  withdraw-few : FewIn (benchIn (λ b. call (calls.withdraw b)) ws)
-  withdraw-few = form-few (isNumber (wordAt 0 ws) && noMore (drop 1 ws)) (call (calls.withdraw (valueOf (wordAt 0 ws)))) tt
-
-  report-few : FewIn (benchIn shows ws)
-  report-few = form-few (isNumber (wordAt 0 ws) && noMore (drop 1 ws)) (shows (valueOf (wordAt 0 ws))) tt
-
-words-few : (ws : List (List ℕ)) → length ws ≤ maxWords → FewIn (ofWords ws)
-words-few [] h = tt
-words-few (w ∷ ws) h =
-    either-few (same w postWord) (postIn ws) _ (post-few ws (omega (arith, h)))
-    (either-few (same w proposeWord) (proposeIn ws) _ (propose-few ws)
-    (either-few (same w correctWord) (correctIn ws) _ (correct-few ws)
-    (either-few (same w withdrawWord) (benchIn (λ b. call (calls.withdraw b)) ws) _ (withdraw-few ws)
-    (either-few (same w reportWord) (benchIn shows ws) wrong (report-few ws) tt))))
-
-few-meaning : (s : List ℕ) → FewIn (meaningOf s)
-unfolding meaningOf
-few-meaning s = go (ltb maxLine (length s)) refl
-  where
-    go : (b : Bool) → ltb maxLine (length s) ≡ b → FewIn (cond b wrong (cond (isComment s) silent (ofWords (words s))))
-    go true e = tt
-    go false e = either-few (isComment s) silent (ofWords (words s)) tt (words-few (words s) (few-words s (ltb-false maxLine (length s) e)))
-
-module _ (d : calls.Desk) (w : PostedWell (d .posting)) where
-  text-cut : (m : Meaning) → FewIn m → textOn d (cut m) ≡ textOn d m
-  unfolding cut showText
-  text-cut silent f = refl
-  text-cut wrong f = refl
-  text-cut (call c) f = ap (λ (a : Answer). byAnswer a okLine) (cut-answer d w c f)
-  text-cut (shows b) f = by-answer-cong _ (calls.answer d (calls.report b (edgesOf (d .posting)))) _ _ (cut-answer d w (calls.report b (edgesOf (d .posting))) tt)
-      (λ e. ap (λ (c : calls.Call). tableText (d .posting) (d .tables (calls.benchOf c))) (cut-same d w (calls.report b (edgesOf (d .posting))) tt e))
-
-  after-cut : (m : Meaning) → FewIn m → afterOn d (cut m) ≡ afterOn d m
-  unfolding cut
-  after-cut silent f = refl
-  after-cut wrong f = refl
-  after-cut (call c) f = cut-step d w c f
-  after-cut (shows b) f = refl
-
-pub line-told : (d : Desk) (s ds ps : List ℕ) (ns : List ℤ) (l : Line) (before after : List ℕ) (r : Told) → Held d → LineIs (meaningOf s) ds ps ns l
-    → Responds d (asMeaning ds ps ns l) before after r → Responds d (meaningOf s) before after r
-line-told d s ds ps ns l before after r h i a = let f = few-meaning s in record {
-  text = subst (λ (t : List ℕ). Wrote before after 0 t (r .length)) (ap (textOn (deskOf d)) (i .means) ∙ text-cut (deskOf d) (well d h) (meaningOf s) f) (a .text);
-  desk = a .desk ∙ ap (afterOn (deskOf d)) (i .means) ∙ after-cut (deskOf d) (well d h) (meaningOf s) f;
-  held = a .held;
-}
 
 -- ---- what the code wrote
 pub report-shown : (d : Desk) (h : Held d) (b : ℕ) (zeros after back : List ℤ) (x : FitReport) (t : Bench) (before′ after′ : List ℕ) (next : ℕ) → zeros ≡ table maxEdges (λ _. pos 0)

@@ -8,7 +8,7 @@ use Rattle.writing.specs.Text.{Wrote}
 use Rattle.lines.specs.Lines.{end, refusedWord}
 use Rattle.answer_lines.specs.Texts.{byAnswer, fitOf}
 use Rattle.desk_theory.specs.Desk as calls
-use Rattle.desk_text.specs.Meaning.{Meaning, silent, wrong, call, shows, meaningOf}
+use Rattle.desk_text.specs.Meaning.{Meaning, silent, wrong, call, shows}
 use Rattle.desk.specs.declared.Desk.{Desk}
 use Rattle.desk.specs.Held.{deskOf, Held}
 use Rattle.desk_answers.specs.declared.Told.{Told}
@@ -54,7 +54,3 @@ pub record Responds (d : Desk) (m : Meaning) (before after : List ℕ) (r : Told
   pub text : Wrote before after 0 (textOn (deskOf d) m) (r .length)
   pub desk : deskOf (r .desk) ≡ afterOn (deskOf d) m
   pub held : Held (r .desk)
-
--- the same of a line
-abbrev pub Tells : Desk → List ℕ → List ℕ → List ℕ → Told → Type 0
-Tells d s before after r = Responds d (meaningOf s) before after r

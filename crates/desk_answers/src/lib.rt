@@ -1,4 +1,4 @@
-// What a desk answers to a line (RULES, The desk's lines): the text, and the desk after it.
+// What a desk answers to what a line means (RULES, The desk's lines): the text, and the desk after it.
 use desk::Answered;
 use desk::Desk;
 use desk_lines::Line;
@@ -12,10 +12,9 @@ ghost use Rattle.verdict.specs.Answer.{answerOf};
 ghost use Rattle.writing.specs.Text.{Wrote};
 ghost use Rattle.lines.specs.Page.{pageSize};
 ghost use Rattle.answer_lines.specs.Texts.{byAnswer};
-ghost use Rattle.desk_text.specs.Meaning.{maxWords};
 ghost use Rattle.desk.specs.Held.{deskOf, Held};
 ghost use Rattle.desk_lines.specs.Lines.{asMeaning, Within};
-ghost use Rattle.desk_answers.specs.Telling.{okLine, showText, Responds, Tells};
+ghost use Rattle.desk_answers.specs.Telling.{okLine, showText, Responds};
 
 // The desk after a line, and how many bytes of the page its answer has.
 pub struct Told {
@@ -115,22 +114,4 @@ pub fn respond(
             length: report_lines(desk, bench, page),
         },
     }
-}
-
-// The answer to a line, with room for the tables that it may have.
-pub fn tell(
-    desk: Desk,
-    line: &[u8],
-    numbers: &mut [u16],
-    distances: &mut [u16],
-    parents: &mut [u8],
-    numerators: &mut [i64],
-    page: &mut [u8],
-) -> Told
-    requires { ⌜ Held desk ⌝ }
-    requires { ⌜ (maxWords ≤ length (now numbers)) × (maxWords ≤ length (now distances)) × (maxWords ≤ length (now parents)) × (maxWords ≤ length (now numerators)) × (pageSize ≤ length (now page)) ⌝ }
-    ensures { λ r. ⌜ Tells desk (now (line .entry)) (now (page .entry)) (now (page .exit)) r ⌝ }
-{
-    let meaning = desk_lines::read_line(line, numbers, distances, parents, numerators);
-    respond(desk, meaning, distances, parents, numerators, page)
 }

@@ -1,6 +1,6 @@
 -- The meaning that the words of a line give, or that it has none: of a proposal (`propose-some`), of a correction (`correct-some`), of a bench
 -- alone (`bench-some`), of the first word (`kind-..`) and of the whole line (`head-..`).
-use mathlib.Core.Path.{_≡_, refl, sym, _∙_, ap, ap₂, subst}
+use mathlib.Core.Path.{_≡_, refl, sym, _∙_, ap, ap₂}
 use mathlib.Core.Bool.{Bool, true, false, cond, _&&_, true≢false}
 use mathlib.Core.List.{List, [], _∷_, map, map-map}
 use Prim.Native.Nat.{ℕ, _-_, _≤_, _<_}
@@ -22,7 +22,7 @@ use Rattle.desk_words.proofs.Reading.{first-word, words-behind}
 use Rattle.desk_posts.specs.Posts.{asPosting, PostRead}
 use Rattle.desk_posts.specs.declared.Post.{Post}
 use Rattle.desk_posts.proofs.Lining.{over-is}
-use Rattle.desk_lines.specs.Lines.{BenchRead, asMeaning, Within, LineIs, ofKind, KindOf, isCall, HeadRead}
+use Rattle.desk_lines.specs.Lines.{BenchRead, asMeaning, Within, LineIs, ofKind, KindOf, HeadRead}
 use Rattle.desk_lines.specs.declared.Bench.{Bench}
 use Rattle.desk_lines.specs.declared.Kind.{Kind}
 use Rattle.desk_lines.specs.declared.Kind.the-variants as kinds

@@ -4,7 +4,7 @@ use mathlib.Core.Bool.{true}
 use mathlib.Core.List.{List}
 use Prim.Native.Nat.{ℕ}
 use Rattle.verdict.specs.Answer.{answerOf}
-use Rattle.correction_theory.specs.Correction.{Correction, correctionTests}
+use Rattle.correction_theory.specs.Correction.{correctionTests}
 use Rattle.correction_theory.specs.Correction as corrections
 use Rattle.desk.specs.declared.Posting.{Posting}
 use Rattle.desk.specs.Held.{matrixOf, treeOf, PostingHeld}

@@ -2,12 +2,12 @@
 -- meaning that the parts of a line give (`post-some`), or that it has none.
 use mathlib.Core.Path.{_≡_, refl, sym, _∙_, ap, ap₂, subst}
 use mathlib.Core.Bool.{Bool, true, false, cond, _&&_, true≢false}
-use mathlib.Core.List.{List, [], _∷_, map, map-map, _++_}
+use mathlib.Core.List.{List, [], _∷_, map, map-map}
 use Prim.Native.Nat.{ℕ, zero, suc, _+_, _-_, _≤_, _<_}
 use native.Mathlib.Decide.{decLt}
 use native.Mathlib.Omega.{arith}
 use lib.Dec.{eqb}
-use lib.ListN.{length, length-map, length-drop, getD, take, drop, List·getD-eq-default}
+use lib.ListN.{length, length-map, length-drop, getD, take, drop}
 use lib.Seq.{getD-drop, drop-drop, take-at, length-front, length-take-le}
 use Rattle.exact.proofs.Decide.{by-cases}
 use Rattle.digits.specs.Digits.{run, atMost, same}
@@ -24,7 +24,7 @@ use Rattle.desk_words.specs.declared.Taken.{Taken}
 use Rattle.desk_words.proofs.Reading.{words-behind, none-left, first-word, cut-twice}
 use Rattle.desk_tables.specs.Laid as laid
 use Rattle.desk_tables.proofs.Laying.{strains-size}
-use Rattle.desk_posts.specs.Posts.{FrontRead, BackRead, noPost, asPosting, PostRead}
+use Rattle.desk_posts.specs.Posts.{FrontRead, BackRead, noPost, PostRead}
 use Rattle.desk_posts.specs.declared.Front.{Front}
 use Rattle.desk_posts.specs.declared.Back.{Back}
 use Rattle.desk_posts.specs.declared.Post.{Post}

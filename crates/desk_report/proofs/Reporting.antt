@@ -6,11 +6,10 @@ use mathlib.Core.Logic.{_≢_}
 use Prim.Native.Nat.{ℕ, _≤_}
 use native.Mathlib.Omega.{arith}
 use borrow.Author.Tests.{eq-eqb, ne-eqb}
-use lib.Dec.{eqb}
 use lib.IntN.{ℤ}
 use lib.ListN.{length, length-take}
 use lib.Seq.{length-take-le}
-use Rattle.verdict.specs.Answer.{Answer, pass, fault, answerOf, refusalOf, test, _orElse_}
+use Rattle.verdict.specs.Answer.{Answer, pass, fault, answerOf, refusalOf, test}
 use Rattle.verdict.specs.declared.Place.the-variants.{Nowhere}
 use Rattle.verdict.specs.declared.Refusal.{Refusal}
 use Rattle.verdict.specs.declared.Verdict.{Verdict}

@@ -4,9 +4,9 @@ use mathlib.Core.Path.{_≡_, refl, sym, _∙_, ap, ap₂}
 use mathlib.Core.Bool.{Bool, true, false, cond, not, _&&_, _||_, true≢false}
 use mathlib.Core.List.{List, [], _∷_, map}
 use Prim.Native.Nat.{ℕ, zero, suc, _+_, _-_, _*_, _≤_, _<_}
-use native.Mathlib.Decide.{decLt, ℕ-discrete}
+use native.Mathlib.Decide.{decLt}
 use native.Mathlib.Omega.{arith}
-use borrow.Author.Tests.{ltb-true, ltb-false, leb-false, not-false, lt-ltb, le-ltb, le-leb, lt-leb, eq-eqb, ne-eqb, eqb-true}
+use borrow.Author.Tests.{ltb-false, lt-ltb, le-ltb, le-leb, lt-leb, ne-eqb}
 use lib.Dec.{eqb, ltb, leb}
 use lib.IntN.{ℤ, pos, negsuc, negℤ, natAbs}
 use lib.ListN.{length, length-map, getD}
@@ -16,7 +16,6 @@ use Rattle.exact.proofs.Decide.{by-cases}
 use Rattle.exact.proofs.Fill.{length-table, getD-table, table-is, table-cong}
 use Rattle.verdict.specs.Answer.{Answer, pass, fault, test, atFirst, _orElse_}
 use Rattle.verdict.specs.Table.{some}
-use Rattle.verdict.specs.declared.Place.{Place}
 use Rattle.verdict.specs.declared.Place.the-variants.{Nowhere, Vertex, Edge}
 use Rattle.verdict.specs.declared.Rule.the-variants.{Plain}
 use Rattle.verdict.proofs.Answers.{refuses, orElse-pass, test-pass, first-pass, atFirst-cong, or-none}
@@ -30,15 +29,14 @@ use Rattle.tree_theory.specs.Chain.{parentOf}
 use Rattle.tree_theory.specs.Tests.{verticesOut, parentOut, parentFault, childrenFew, treeTests}
 use Rattle.lengths.specs.Limits.{maxNumerator}
 use Rattle.lengths.specs.Tests.{edgesOut, denominatorOut, numeratorOut, lengthsTests}
-use Rattle.fit_theory.specs.Stands.{Posted}
-use Rattle.fit_theory.specs.Tests.{bufferOut, shapeTests, seenTests, postedTests, proposalTests, sumsTests}
+use Rattle.fit_theory.specs.Tests.{shapeTests, seenTests, postedTests, proposalTests, sumsTests}
 use Rattle.correction_theory.specs.Correction.{Correction, pairTests, corrected, correctionTests}
 use Rattle.correction_theory.proofs.Asked.{→apart, far-near}
-use Rattle.desk_theory.specs.Desk.{Posting, nothing, matrixTree, Table, Desk, Call, post, correct, propose, withdraw, report, benchOut, isNone, ifPosted, answer, answerOn, effect, step}
+use Rattle.desk_theory.specs.Desk.{Posting, nothing, matrixTree, Desk, Call, post, correct, propose, withdraw, report, benchOut, ifPosted, answer, answerOn, step}
 use Rattle.desk_theory.specs.Promises.{PostedWell}
 use Rattle.desk_theory.proofs.Runs.{refused-same}
 use Rattle.desk_text.specs.Meaning.{byStrains, maxWords}
-use Rattle.desk_text.specs.Fields.{cutTo, word, cutWord, cutDistance, cutParent, cutMagnitude, cutNumerator, cutCall}
+use Rattle.desk_text.specs.Fields.{cutTo, word, cutWord, cutDistance, cutParent, cutNumerator, cutCall}
 
 -- ---- one number
 pub cut-low : (most above x : ℕ) → x ≤ most → cutTo most above x ≡ x

@@ -4,13 +4,13 @@
 use mathlib.Core.Path.{_≡_, refl, sym, _∙_, ap, ap₂}
 use mathlib.Core.Bool.{Bool, true, false, cond, not, _&&_, true≢false}
 use mathlib.Core.List.{List, [], _∷_}
-use Prim.Native.Nat.{ℕ, zero, suc, _+_, _*_, _≤_, _<_}
+use Prim.Native.Nat.{ℕ, suc, _+_, _*_, _≤_, _<_}
 use native.Mathlib.Omega.{arith}
 use borrow.Author.Tests.{eqb-true, eqb-false, eq-eqb, ne-eqb, lt-ltb}
 use lib.Dec.{eqb, ltb}
 use lib.ListN.{length, take, drop}
 use Rattle.digits.specs.Digits.{run, isBlank, isDigit}
-use Rattle.digits.proofs.Reading.{both-true, digit-low}
+use Rattle.digits.proofs.Reading.{digit-low}
 use Rattle.desk_text.specs.Meaning.{maxLine, maxWords}
 use Rattle.desk_text.specs.Words.{isLetter, wordOver, onto, words, isNumber}
 

@@ -1,12 +1,11 @@
 -- What a call's numbers are cut to, so that each has room in its field. One that is too large for its field becomes one that is out of that
 -- field's range, and never one within: `cut-call`, in proofs/Cutting.antt, says that no answer and no desk changes by it.
 use mathlib.Core.Bool.{cond}
-use mathlib.Core.List.{List, map}
+use mathlib.Core.List.{map}
 use Prim.Native.Nat.{ℕ, suc}
 use lib.Dec.{leb}
 use lib.IntN.{ℤ, pos, negsuc, negℤ}
 use Rattle.lengths.specs.Limits.{maxNumerator}
-use Rattle.correction_theory.specs.Correction.{Correction}
 use Rattle.desk_theory.specs.Desk.{Call, post, correct, propose, withdraw, report}
 use Rattle.desk_text.specs.Meaning.{Meaning, silent, wrong, call, shows}
 

@@ -4,12 +4,10 @@ use mathlib.Core.Bool.{Bool, true, false, cond, _&&_}
 use mathlib.Core.List.{List, [], _∷_, map}
 use Prim.Native.Nat.{ℕ}
 use lib.Dec.{eqb, ltb, leb}
-use lib.IntN.{ℤ}
 use lib.ListN.{length, getD, drop}
 use Rattle.exact.specs.Table.{table}
 use Rattle.matrix.specs.Limits.{maxStrains}
 use Rattle.matrix.specs.Place.{pairCount, fromRows}
-use Rattle.correction_theory.specs.Correction.{Correction}
 use Rattle.digits.specs.Digits.{same}
 use Rattle.desk_theory.specs.Desk.{Call, post, correct, propose, withdraw}
 use Rattle.desk_text.specs.Words.{words, isNumber, valueOf, isSigned, signedOf, leading, behind}

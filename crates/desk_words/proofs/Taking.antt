@@ -8,7 +8,7 @@ use native.Mathlib.Decide.{decLt}
 use native.Mathlib.Numerals.{add-one}
 use native.Mathlib.Omega.{arith}
 use lib.IntN.{ℤ, pos, negsuc, negℤ, natAbs}
-use lib.ListN.{length, length-map, length-set, getD, set, take, drop, drop-of-length-le}
+use lib.ListN.{length, length-map, length-set, set, take, drop, drop-of-length-le}
 use lib.Seq.{length-take-le, take-suc-set, drop-set-lt, drop-drop}
 use mir.Syntax.{w64}
 use mir.Val.{toZ, ofZ}

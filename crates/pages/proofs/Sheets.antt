@@ -1,11 +1,11 @@
 -- The print of a sheet's report is the print of the sheet.
 -- `few-edges`: what the print asks. `shown-is`: the text of the report is the print (RULES, The print) of what the
 -- sheet holds. `other-lines`: where both rules accept a sheet, its two prints differ in the first word only.
-use mathlib.Core.Path.{_≡_, refl, sym, _∙_, ap, ap₂, subst}
-use mathlib.Core.List.{List, [], _∷_, _++_}
-use Prim.Native.Nat.{ℕ, zero, suc, _*_, _≤_, _<_}
+use mathlib.Core.Path.{_≡_, refl, subst}
+use mathlib.Core.List.{List, _++_}
+use Prim.Native.Nat.{ℕ, _≤_}
 use native.Mathlib.Omega.{arith}
-use lib.IntN.{ℤ, pos}
+use lib.IntN.{ℤ}
 use lib.ListN.{length, drop}
 use Rattle.verdict.specs.Answer.{pass}
 use Rattle.verdict.specs.declared.Rule.{Rule}
@@ -15,14 +15,12 @@ use Rattle.exact.specs.Table.{entryOf}
 use Rattle.exact.proofs.Decide.{by-cases}
 use Rattle.mean.specs.declared.Mean.{Mean}
 use Rattle.tree_theory.specs.Limits.{maxEdges}
-use Rattle.fit_theory.specs.Quantities.{roundedOf, treeLength, fOf, rOf, hOf}
 use Rattle.writing.specs.Text.{Wrote}
-use Rattle.lines.specs.Lines.{line, edgeWord, edgeLines, fitText, fitWord, lengthWord, squareWord, meanLine}
+use Rattle.lines.specs.Lines.{fitText, fitWord}
 use Rattle.lines.specs.Page.{pageSize}
 use Rattle.lines.proofs.Sizes.{text-length}
 use Rattle.reading.specs.Holds.{strainsOf, distancesOf, parentsOf, denominatorOf, numeratorsOf}
 use Rattle.reading.specs.Tests.{sheetTests}
-use Rattle.reporting.specs.Answers.{Reported}
 use Rattle.sheet.specs.declared.SheetFit.{SheetFit}
 use Rattle.sheet.specs.Reports.{Fitted, SheetReport}
 use Rattle.answer_lines.specs.Texts.{reportText}

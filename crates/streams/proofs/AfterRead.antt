@@ -3,7 +3,7 @@
 use mathlib.Core.Path.{_≡_, refl, sym, _∙_, ap, subst}
 use mathlib.Core.Bool.{true, false, true≢false}
 use mathlib.Core.List.{List, [], _∷_}
-use Prim.Native.Nat.{ℕ, zero, suc, min, _+_, _-_, _≤_, _<_}
+use Prim.Native.Nat.{ℕ, zero, suc, _+_, _-_, _≤_, _<_}
 use native.Mathlib.Omega.{arith}
 use borrow.Author.Tests.{le-ltb}
 use lib.IntN.{ℤ, pos, negsuc}
@@ -13,7 +13,7 @@ use Rattle.io.specs.Counts.{clamped}
 use Rattle.streams.specs.declared.Taken.{Taken}
 use Rattle.streams.specs.declared.Reading.{Reading}
 use Rattle.streams.specs.declared.Reading.the-variants.{On, Over}
-use Rattle.streams.specs.Reads.{readOf, Reads, full, over, on, ReadIn}
+use Rattle.streams.specs.Reads.{readOf, ReadOnce, full, over, on, ReadIn}
 
 pub failed : (count : ℕ) (z : ℤ) (n : ℕ) → ltZ z (pos 0) ≡ true → Over (record { count = count; whole = false }) ≡ readOf count z n
 failed count (pos k) n e = absurd (true≢false (sym e ∙ le-ltb k 0 (omega arith)))
@@ -43,16 +43,17 @@ pub record Told (room count : ℕ) (reading : Reading) : Type 0 where
   pub goes-on : (next : ℕ) → reading ≡ On next → (count < next) × (next ≤ room) × ((taken : Taken) → ReadIn room next taken → ReadIn room count taken)
   pub is-over : (taken : Taken) → reading ≡ Over taken → (taken .count < room) × ReadIn room count taken
 
-pub told : (room count : ℕ) (z : ℤ) (after : List ℕ) (reading : Reading) → reading ≡ readOf count z (length (take (length after - count) (drop count after))) → length after ≡ room → count < room → Told room count reading
+pub told : (room count : ℕ) (reading : Reading) → ReadOnce room count reading → count < room → Told room count reading
 unfolding Came
-told room count z after reading stands size h =
-    let rest : length (take (length after - count) (drop count after)) ≡ room - count = simp (length-take, length-drop) (omega arith) in
-    let n = room - count in
-    let from = stands ∙ ap (readOf count z) rest in
-    record {
-      goes-on = λ next e. let q = subst (Came count n) (sym from ∙ e) (came count z n) in (q .0 (omega arith), omega arith, λ taken later. (z ∷ later .0, on h (sym from ∙ e) (later .1)));
-      is-over = λ taken e. let q = subst (Came count n) (sym from ∙ e) (came count z n) in (omega arith, (z ∷ [], over h (sym from ∙ e)));
-    }
+told room count reading (z, from) h = let n = room - count in record {
+  goes-on = λ next e. let q = subst (Came count n) (sym from ∙ e) (came count z n) in (q .0 (omega arith), omega arith, λ taken later. (z ∷ later .0, on h (sym from ∙ e) (later .1)));
+  is-over = λ taken e. let q = subst (Came count n) (sym from ∙ e) (came count z n) in (omega arith, (z ∷ [], over h (sym from ∙ e)));
+}
+
+-- the number that a read gave, told by the part of the buffer that was left for it
+pub read-once : (room count : ℕ) (z : ℤ) (after : List ℕ) (reading : Reading) → reading ≡ readOf count z (length (take (length after - count) (drop count after))) → length after ≡ room → count < room → ReadOnce room count reading
+read-once room count z after reading stands size h =
+    let rest : length (take (length after - count) (drop count after)) ≡ room - count = simp (length-take, length-drop) (omega arith) in (z, stands ∙ ap (readOf count z) rest)
 
 pub filled : (room count : ℕ) → room ≡ count → ReadIn room count (record { count = count; whole = true })
 filled room count e = subst (λ (k : ℕ). ReadIn room k (record { count = k; whole = true })) e ([], full)

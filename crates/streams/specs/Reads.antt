@@ -14,6 +14,10 @@ readOf count (negsuc k) left = Over (record { count = count; whole = false })
 readOf count (pos zero) left = Over (record { count = count; whole = true })
 readOf count (pos (suc k)) left = On (count + min (suc k) left)
 
+-- one read into what is left of a buffer behind so many bytes: some number was given
+abbrev pub ReadOnce : ℕ → ℕ → Reading → Type 0
+ReadOnce room count reading = (got : ℤ) × (reading ≡ readOf count got (room - count))
+
 -- what comes of reading on with so many bytes of a buffer filled: nothing more is read where it is full, else a read ends it or it goes on
 pub data Reads (room : ℕ) : ℕ → List ℤ → Taken → Type 0 where
   full : Reads room room [] (record { count = room; whole = true })

@@ -8,11 +8,11 @@ use records::Layout;
 ghost use mathlib.Core.Path.{_≡_};
 ghost use mathlib.Core.Bool.{true};
 ghost use Prim.Native.Nat.{_+_, _^_, _≤_, _<_};
-ghost use lib.ListN.{length};
+ghost use lib.ListN.{length, take};
 ghost use Rattle.io.specs.Counts.{Counts};
 ghost use Rattle.exact.specs.Table.{table};
 ghost use Rattle.records.specs.Form.{maxSheet};
-ghost use Rattle.streams.specs.Reads.{readOf, ReadIn};
+ghost use Rattle.streams.specs.Reads.{readOf, ReadOnce, ReadIn};
 
 // What came of reading: how many bytes stand at the front of the buffer, and whether no read failed.
 pub struct Taken {
@@ -61,6 +61,20 @@ fn say_unless(well: bool, wrong: &[u8]) -> bool
     well
 }
 
+// Reads once from standard input into what is left of a buffer behind so many bytes, and says where that fails.
+pub fn take_more(space: &mut [u8], count: usize) -> Reading
+    requires { ⌜ count < length (now space) ⌝ }
+    ensures { λ r. ⌜ ReadOnce (length (now (space .entry))) count r ⌝ }
+    ensures { λ _. ⌜ take count (now (space .exit)) ≡ take count (now (space .entry)) ⌝ }
+{
+    let got = libc::read(STDIN_FILENO, &mut space[count..]);
+    let reading = after_read(count, got, &space[count..]);
+    if let Reading::Over(taken) = reading {
+        say_unless(taken.whole, b"standard input could not be read\n");
+    }
+    reading
+}
+
 // Fills a buffer from standard input until it is full, the input ends or a read fails, which it says.
 pub fn take_in(space: &mut [u8]) -> Taken
     ensures { λ r. ⌜ Counts (r .count) (now (space .exit)) ⌝ }
@@ -68,13 +82,11 @@ pub fn take_in(space: &mut [u8]) -> Taken
 {
     let mut count = 0;
     while count < space.len() {
-        let got = libc::read(STDIN_FILENO, &mut space[count..]);
-        match after_read(count, got, &space[count..]) {
+        match take_more(space, count) {
             Reading::On(next) => {
                 count = next;
             }
             Reading::Over(taken) => {
-                say_unless(taken.whole, b"standard input could not be read\n");
                 return taken;
             }
         }

@@ -1,5 +1,4 @@
 -- N, then numbers as long as there are any.
-use mathlib.Core.Path.{_≡_, refl, sym, _∙_}
 use native.Mathlib.Omega.{arith}
 use borrow.Author.Tests.{not-true, not-false}
 use Rattle.desk_text.specs.Words.{isNumber}

@@ -1,5 +1,4 @@
 -- The slash, then numbers to the end of the line.
-use mathlib.Core.Path.{_≡_, refl, sym, _∙_}
 use native.Mathlib.Omega.{arith}
 use borrow.Author.Tests.{not-true, not-false}
 use Rattle.desk_text.specs.Words.{isNumber}

@@ -1,6 +1,5 @@
 -- By whether the number is in its range.
 use borrow.Author.Tests.{le-leb, lt-leb}
-use native.Mathlib.Omega.{arith}
 use Rattle.desk_words.proofs.field.Statement.{statement}
 use Rattle.desk_words.proofs.field.Tie as tie
 

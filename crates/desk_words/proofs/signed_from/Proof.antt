@@ -8,7 +8,6 @@ use Rattle.desk_text.specs.Fields.{cutMagnitude}
 use Rattle.desk_words.specs.Reads.{withSign, signedFrom}
 use Rattle.desk_words.specs.declared.Number.{Number}
 use Rattle.desk_words.specs.declared.Signed.{Signed}
-use mir.Syntax.{w64}
 use mir.Facts.{toZ-ofZ}
 use borrow.Author.Needs.{needs}
 use Rattle.desk_words.proofs.signed_from.Statement.{statement}

@@ -1,8 +1,8 @@
 -- The line is read, and what it means is answered.
-use Rattle.desk_answers.proofs.Telling.{line-told}
+use Rattle.desk_turn.proofs.Cut.{line-told}
 use borrow.Author.Needs.{needs}
-use Rattle.desk_answers.proofs.tell.Statement.{statement}
-use Rattle.desk_answers.proofs.tell.Tie as tie
+use Rattle.desk_turn.proofs.tell.Statement.{statement}
+use Rattle.desk_turn.proofs.tell.Tie as tie
 
 read-line-requires : tie.Need-read-line-requires
 read-line-requires c κs = search needs
