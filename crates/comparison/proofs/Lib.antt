@@ -1,3 +1,4 @@
 pub mod Cross
+pub mod Laws
 pub mod Matrices
 pub mod Measuring

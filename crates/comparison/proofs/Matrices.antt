@@ -16,32 +16,10 @@ use Rattle.reading.specs.Holds.{strainsOf, rowAt, distancesOf}
 use Rattle.reading.specs.Tests.{sheetTests}
 use Rattle.sheet.proofs.Laws.{same-matrix, same-rows, orElse-pass, testAt-pass, sheet-form}
 use Rattle.comparison.specs.Matrices.{same, sameMatrix, SameRows}
-
--- ---- lists with the same entries
-pub same-self : (xs : List ℕ) → same xs xs ≡ true
-unfolding same
-same-self [] = refl
-same-self (x ∷ xs) = rw (eq-eqb x x refl, same-self xs)
-
-and-both : (a b : Bool) → (a && b) ≡ true → (a ≡ true) × (b ≡ true)
-and-both true b e = (refl, e)
-and-both false b e = absurd (true≢false (sym e))
-
-pub same-list : (xs ys : List ℕ) → same xs ys ≡ true → xs ≡ ys
-unfolding same
-same-list [] [] e = refl
-same-list [] (y ∷ ys) e = absurd (true≢false (sym e))
-same-list (x ∷ xs) [] e = absurd (true≢false (sym e))
-same-list (x ∷ xs) (y ∷ ys) e = let (h, k) = and-both (eqb x y) (same xs ys) e in
-    ap₂ (λ (z : ℕ) (zs : List ℕ). z ∷ zs) (eqb-true x y h) (same-list xs ys k)
+use Rattle.comparison.proofs.Laws.{same-self, one-matrix}
 
 -- ---- one matrix
 module _ (s t : List ℕ) where
-  -- what it tells
-  pub one-matrix : sameMatrix s t ≡ true → (strainsOf s ≡ strainsOf t) × (distancesOf s ≡ distancesOf t)
-  one-matrix e = let (h, k) = and-both (eqb (strainsOf s) (strainsOf t)) (same (distancesOf s) (distancesOf t)) e in
-      (eqb-true (strainsOf s) (strainsOf t) h, same-list (distancesOf s) (distancesOf t) k)
-
   pub other-strains : (strainsOf t ≡ strainsOf s → ⊥) → false ≡ sameMatrix s t
   other-strains h = simp (ne-eqb (strainsOf s) (strainsOf t) (λ e. h (sym e)))
 
@@ -59,7 +37,7 @@ module _ (s t : List ℕ) where
         where
           other : (b : Bool) → sameMatrix s t ≡ b → false ≡ sameMatrix s t
           other false d = sym d
-          other true d = absurd (h .differ g (λ k l. same-rows s t (sym e) (one-matrix d .1) k (omega arith)))
+          other true d = absurd (h .differ g (λ k l. same-rows s t (sym e) (one-matrix s t d .1) k (omega arith)))
 
   -- ---- what a pass over the rows finds
   module _ (n : ℕ) where
