@@ -1,0 +1,71 @@
+-- RULES, Which of two trees is shorter, "A run": sheet after sheet, what is kept between them, and the line that each gets.
+use mathlib.Core.Bool.{Bool, cond, not}
+use mathlib.Core.List.{List, [], _∷_}
+use Prim.Native.Nat.{ℕ, suc}
+use lib.IntN.{pos}
+use lib.Signed.{ltZ}
+use Rattle.verdict.specs.Answer.{Answer, pass, fault, test, _orElse_}
+use Rattle.verdict.specs.declared.Rule.the-variants.{Plain}
+use Rattle.correction_theory.specs.Correction.{onPass}
+use Rattle.lines.specs.Lines.{line, refusedLine}
+use Rattle.reading.specs.Tests.{sheetTests}
+use Rattle.comparison.specs.Matrices.{sameMatrix}
+use Rattle.planner.specs.Compared.{lengthBeside}
+
+-- the winner so far: none, or its number among all sheets of the run and its bytes
+pub data Winner : Type 0 where
+  none : Winner
+  won : ℕ → List ℕ → Winner
+
+-- what is kept between two sheets: how many have come, and the winner among them
+pub record State : Type 0 where
+  pub count : ℕ
+  pub winner : Winner
+
+abbrev pub start : State
+start = record { count = 0; winner = none }
+
+-- 27: the sheet's matrix is not the winner's; before there is a winner any matrix is right
+abbrev pub matrixTest : Winner → List ℕ → Answer
+matrixTest none t = pass
+matrixTest (won k s) t = test 27 (not (sameMatrix s t))
+
+-- the answer to a sheet: its own tests, then 27
+abbrev pub answer : Winner → List ℕ → Answer
+answer w t = sheetTests Plain t orElse matrixTest w t
+
+-- the winner where the sheet t with the number n is accepted beside it: t where there is none, or where its tree length is less
+abbrev pub shorter : Winner → ℕ → List ℕ → Winner
+shorter none n t = won n t
+shorter (won k s) n t = cond (ltZ (lengthBeside t s) (lengthBeside s t)) (won n t) (won k s)
+
+-- the winner after a sheet with the number n: a refused one changes nothing
+abbrev pub winnerAfter : Winner → ℕ → List ℕ → Winner
+winnerAfter w n t = onPass (answer w t) (shorter w n t) w
+
+-- one sheet: it takes the next number, accepted or not
+abbrev pub step : State → List ℕ → State
+step r t = record { count = suc (r .count); winner = winnerAfter (r .winner) (r .count) t }
+
+-- sheet after sheet, the first in the list first
+abbrev pub run : State → List (List ℕ) → State
+run r [] = r
+run r (t ∷ ts) = run (step r t) ts
+
+-- "best"
+abbrev pub bestWord : List ℕ
+bestWord = 98 ∷ 101 ∷ 115 ∷ 116 ∷ []
+
+-- the winner's number, 0 where there is none
+abbrev pub numberOf : Winner → ℕ
+numberOf none = 0
+numberOf (won k s) = k
+
+-- the line of an answer: best and the winner's number after the sheet, or the refusal with its place
+abbrev pub lineOf : Answer → ℕ → List ℕ
+lineOf pass k = line bestWord (pos k ∷ [])
+lineOf (fault n p) k = refusedLine n p
+
+-- the line that a sheet gets
+abbrev pub lineAt : State → List ℕ → List ℕ
+lineAt r t = lineOf (answer (r .winner) t) (numberOf (step r t .winner))
