@@ -23,7 +23,8 @@ use Rattle.reading.specs.Tests.{sheetTests}
 use Rattle.comparison.specs.Matrices.{sameMatrix}
 use Rattle.comparison.proofs.Laws.{matrix-same}
 use Rattle.planner.specs.Compared.{lengthBeside}
-use Rattle.shortest_theory.specs.Run.{Winner, none, won, State, answer, shorter, winnerAfter, step, bestWord, numberOf, lineOf, lineAt}
+use Rattle.shortest_lines.specs.Answered.{bestWord, lineOf}
+use Rattle.shortest_theory.specs.Run.{Winner, none, won, State, answer, shorter, winnerAfter, step, numberOf, lineAt}
 use Rattle.shortest_theory.specs.Promises.{Numbered, Accepted, FirstAccepted, FirstOfTheShortest, WinnerOf, Behind}
 
 -- a winner that there is

@@ -2,15 +2,14 @@
 use mathlib.Core.Bool.{Bool, cond, not}
 use mathlib.Core.List.{List, [], _∷_}
 use Prim.Native.Nat.{ℕ, suc}
-use lib.IntN.{pos}
 use lib.Signed.{ltZ}
-use Rattle.verdict.specs.Answer.{Answer, pass, fault, test, _orElse_}
+use Rattle.verdict.specs.Answer.{Answer, pass, test, _orElse_}
 use Rattle.verdict.specs.declared.Rule.the-variants.{Plain}
 use Rattle.correction_theory.specs.Correction.{onPass}
-use Rattle.lines.specs.Lines.{line, refusedLine}
 use Rattle.reading.specs.Tests.{sheetTests}
 use Rattle.comparison.specs.Matrices.{sameMatrix}
 use Rattle.planner.specs.Compared.{lengthBeside}
+use Rattle.shortest_lines.specs.Answered.{lineOf}
 
 -- the winner so far: none, or its number among all sheets of the run and its bytes
 pub data Winner : Type 0 where
@@ -52,19 +51,10 @@ abbrev pub run : State → List (List ℕ) → State
 run r [] = r
 run r (t ∷ ts) = run (step r t) ts
 
--- "best"
-abbrev pub bestWord : List ℕ
-bestWord = 98 ∷ 101 ∷ 115 ∷ 116 ∷ []
-
 -- the winner's number, 0 where there is none
 abbrev pub numberOf : Winner → ℕ
 numberOf none = 0
 numberOf (won k s) = k
-
--- the line of an answer: best and the winner's number after the sheet, or the refusal with its place
-abbrev pub lineOf : Answer → ℕ → List ℕ
-lineOf pass k = line bestWord (pos k ∷ [])
-lineOf (fault n p) k = refusedLine n p
 
 -- the line that a sheet gets
 abbrev pub lineAt : State → List ℕ → List ℕ
