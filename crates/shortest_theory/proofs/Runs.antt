@@ -9,7 +9,7 @@ use native.Mathlib.Omega.{arith}
 use lib.Dec.{T}
 use lib.ListN.{length, getD, length-append, List·getD-append}
 use lib.Seq.{getD-append-add}
-use lib.Signed.{ltZ, ltZ-yes, ltZ-no}
+use lib.Signed.{ltZ-yes, ltZ-no}
 use Rattle.exact.proofs.Decide.{by-cases}
 use Rattle.verdict.specs.Answer.{Answer, pass, fault, test, _orElse_}
 use Rattle.verdict.specs.declared.Rule.the-variants.{Plain}
@@ -18,8 +18,7 @@ use Rattle.correction_theory.specs.Correction.{onPass}
 use Rattle.reading.specs.Tests.{sheetTests}
 use Rattle.comparison.specs.Matrices.{sameMatrix}
 use Rattle.comparison.proofs.Laws.{matrix-self, matrix-same}
-use Rattle.planner.specs.Compared.{lengthBeside}
-use Rattle.shortest_theory.specs.Run.{Winner, none, won, State, start, winnerAfter, step, run}
+use Rattle.shortest_theory.specs.Run.{Winner, none, won, State, start, ofMatrix, beats, winnerAfter, step, run}
 use Rattle.shortest_theory.specs.Promises.{Numbered, Accepted, AtMost, Less, FirstAccepted, Candidate, FirstOfTheShortest, WinnerOf, Behind}
 use Rattle.shortest_theory.proofs.Order.{less-most, self-most, less-trans}
 
@@ -102,14 +101,15 @@ module _ (ts : List (List ℕ)) (t : List ℕ) where
       go : (a : Answer) → sheetTests Plain t ≡ a → WinnerOf more (onPass (a orElse pass) (won (length ts) t) none)
       go pass e = opens h e
       go (fault n p) e = none-still h (λ z. refuses n p (sym e ∙ z))
-  after (won k s) w = go (sheetTests Plain t) (sameMatrix s t) (ltZ (lengthBeside t s) (lengthBeside s t)) refl refl refl
+  after (won k s) w = go (sheetTests Plain t) (ofMatrix (won k s) t) (beats t (won k s)) refl (λ e. e) (λ e. e) (λ e. ltZ-yes (subst T (sym e) tt)) (λ e. ltZ-no (subst (λ (x : Bool). T (not x)) (sym e) tt))
     where
-      go : (a : Answer) (b c : Bool) → sheetTests Plain t ≡ a → sameMatrix s t ≡ b → ltZ (lengthBeside t s) (lengthBeside s t) ≡ c
+      -- by the sheet's own answer, by whether its matrix is the winner's, and by whether it is shorter
+      go : (a : Answer) (b c : Bool) → sheetTests Plain t ≡ a → (b ≡ true → sameMatrix s t ≡ true) → (b ≡ false → sameMatrix s t ≡ false) → (c ≡ true → Less t s) → (c ≡ false → AtMost s t)
           → WinnerOf more (onPass (a orElse test 27 (not b)) (cond c (won (length ts) t) (won k s)) (won k s))
-      go (fault n p) b c e f g = stays k s w (λ z _. absurd (refuses n p (sym e ∙ z)))
-      go pass false c e f g = stays k s w (λ _ z. absurd (true≢false (sym z ∙ matrix-same (w .o) s t (w .candidate .matrix) ∙ f)))
-      go pass true true e f g = gives-way k s w e f (ltZ-yes (subst T (sym g) tt))
-      go pass true false e f g = stays k s w (λ _ _. ltZ-no (subst (λ (b : Bool). T (not b)) (sym g) tt))
+      go (fault n p) b c e same other less most = stays k s w (λ z _. absurd (refuses n p (sym e ∙ z)))
+      go pass false c e same other less most = stays k s w (λ _ z. absurd (true≢false (sym z ∙ matrix-same (w .o) s t (w .candidate .matrix) ∙ other refl)))
+      go pass true true e same other less most = gives-way k s w e (same refl) (less refl)
+      go pass true false e same other less most = stays k s w (λ _ _. most refl)
 
 pub behind-step : (ts : List (List ℕ)) (t : List ℕ) (r : State) → Behind ts r → Behind (ts ++ (t ∷ [])) (step r t)
 behind-step ts t r b = record {

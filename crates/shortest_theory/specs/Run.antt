@@ -1,9 +1,9 @@
 -- RULES, Which of two trees is shorter, "A run": sheet after sheet, what is kept between them, and the line that each gets.
-use mathlib.Core.Bool.{Bool, cond, not}
+use mathlib.Core.Bool.{Bool, true, cond, not}
 use mathlib.Core.List.{List, [], _∷_}
 use Prim.Native.Nat.{ℕ, suc}
 use lib.Signed.{ltZ}
-use Rattle.verdict.specs.Answer.{Answer, pass, test, _orElse_}
+use Rattle.verdict.specs.Answer.{Answer, test, _orElse_}
 use Rattle.verdict.specs.declared.Rule.the-variants.{Plain}
 use Rattle.correction_theory.specs.Correction.{onPass}
 use Rattle.reading.specs.Tests.{sheetTests}
@@ -24,19 +24,23 @@ pub record State : Type 0 where
 abbrev pub start : State
 start = record { count = 0; winner = none }
 
--- 27: the sheet's matrix is not the winner's; before there is a winner any matrix is right
-abbrev pub matrixTest : Winner → List ℕ → Answer
-matrixTest none t = pass
-matrixTest (won k s) t = test 27 (not (sameMatrix s t))
+-- whether a sheet's matrix is the winner's; before there is a winner any matrix will do
+abbrev pub ofMatrix : Winner → List ℕ → Bool
+ofMatrix none t = true
+ofMatrix (won k s) t = sameMatrix s t
 
--- the answer to a sheet: its own tests, then 27
+-- the answer to a sheet: its own tests, then 27 for another matrix
 abbrev pub answer : Winner → List ℕ → Answer
-answer w t = sheetTests Plain t orElse matrixTest w t
+answer w t = sheetTests Plain t orElse test 27 (not (ofMatrix w t))
 
--- the winner where the sheet t with the number n is accepted beside it: t where there is none, or where its tree length is less
+-- whether an accepted sheet wins: there is no winner, or its tree length is less than the winner's
+abbrev pub beats : List ℕ → Winner → Bool
+beats t none = true
+beats t (won k s) = ltZ (lengthBeside t s) (lengthBeside s t)
+
+-- the winner where the sheet t with the number n is accepted beside it
 abbrev pub shorter : Winner → ℕ → List ℕ → Winner
-shorter none n t = won n t
-shorter (won k s) n t = cond (ltZ (lengthBeside t s) (lengthBeside s t)) (won n t) (won k s)
+shorter w n t = cond (beats t w) (won n t) w
 
 -- the winner after a sheet with the number n: a refused one changes nothing
 abbrev pub winnerAfter : Winner → ℕ → List ℕ → Winner
