@@ -7,10 +7,8 @@ use Prim.Native.Nat.{ℕ, suc, _<_}
 use native.Mathlib.Decide.{decLt}
 use native.Mathlib.Omega.{arith}
 use borrow.Author.Tests.{lt-ltb}
-use lib.Dec.{ltb}
 use lib.IntN.{pos}
 use lib.ListN.{length, getD}
-use lib.Signed.{ltZ}
 use Rattle.exact.proofs.Decide.{by-cases}
 use Rattle.verdict.specs.Answer.{Answer, pass, fault, test, _orElse_}
 use Rattle.verdict.specs.declared.Place.{Place}
@@ -22,9 +20,8 @@ use Rattle.records.specs.Form.{maxSheet}
 use Rattle.reading.specs.Tests.{sheetTests}
 use Rattle.comparison.specs.Matrices.{sameMatrix}
 use Rattle.comparison.proofs.Laws.{matrix-same}
-use Rattle.planner.specs.Compared.{lengthBeside}
 use Rattle.shortest_lines.specs.Answered.{bestWord, lineOf}
-use Rattle.shortest_theory.specs.Run.{Winner, none, won, State, answer, shorter, winnerAfter, step, numberOf, lineAt}
+use Rattle.shortest_theory.specs.Run.{Winner, none, won, State, answer, beats, shorter, step, numberOf, lineAt}
 use Rattle.shortest_theory.specs.Promises.{Numbered, Accepted, FirstAccepted, FirstOfTheShortest, WinnerOf, Behind}
 
 -- a winner that there is
@@ -35,11 +32,14 @@ Some (won k s) = Unit {0}
 shorter-some : (w : Winner) (n : ℕ) (t : List ℕ) → Some (shorter w n t)
 unfolding Some
 shorter-some none n t = tt
-shorter-some (won k s) n t = go (ltZ (lengthBeside t s) (lengthBeside s t))
+shorter-some (won k s) n t = go (beats t (won k s))
   where
     go : (b : Bool) → Some (cond b (won n t) (won k s))
     go true = tt
     go false = tt
+
+on-pass : {A : Type 0} (a : Answer) (new old : A) → a ≡ pass → onPass a new old ≡ new
+on-pass a new old e = ap (λ (x : Answer). onPass x new old) e
 
 -- an accepted sheet: there is a winner after it, and its line has that winner's number
 pub record Best (r : State) (t : List ℕ) : Type 0 where
@@ -55,7 +55,7 @@ module _ (r : State) (t : List ℕ) where
     where
       go : (w : Winner) → shorter (r .winner) (r .count) t ≡ w → Some w → Best r t
       go none f h = absurd h
-      go (won k s) f h = let after : step r t .winner ≡ won k s = ap (λ (a : Answer). onPass a (shorter (r .winner) (r .count) t) (r .winner)) e ∙ f in
+      go (won k s) f h = let after : step r t .winner ≡ won k s = on-pass (answer (r .winner) t) (shorter (r .winner) (r .count) t) _ e ∙ f in
           record { number = k; sheet = s; winner = after; names = ap₂ (λ (a : Answer) (w : Winner). lineOf a (numberOf w)) e after }
 
   -- a refused one: the winner is as it was, and the line is the refusal
