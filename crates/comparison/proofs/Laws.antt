@@ -1,13 +1,24 @@
--- For a customer: two sheets have one matrix exactly where they have the same N and the same distances, so each has its own (`matrix-self`),
+-- For a customer: an accepted sheet is not above the limit (`accepted-short`); two sheets have one matrix exactly where they have the same N and the same distances, so each has its own (`matrix-self`),
 -- and of two sheets with one matrix either may stand for the other (`matrix-same`).
 use mathlib.Core.Path.{_≡_, refl, sym, _∙_, ap, ap₂}
 use mathlib.Core.Bool.{Bool, true, false, _&&_, true≢false}
 use mathlib.Core.List.{List, [], _∷_}
-use Prim.Native.Nat.{ℕ}
-use borrow.Author.Tests.{eq-eqb, eqb-true}
-use lib.Dec.{eqb}
+use Prim.Native.Nat.{ℕ, _≤_}
+use borrow.Author.Tests.{eq-eqb, eqb-true, ltb-false}
+use lib.Dec.{eqb, ltb}
+use lib.ListN.{length}
+use Rattle.verdict.specs.Answer.{pass, test, testAt, _orElse_}
+use Rattle.verdict.specs.declared.Place.the-variants.{Byte}
+use Rattle.verdict.specs.declared.Rule.the-variants.{Plain}
+use Rattle.records.specs.Form.{maxSheet, startOf, recordsTests}
 use Rattle.reading.specs.Holds.{strainsOf, distancesOf}
+use Rattle.reading.specs.Tests.{sheetTests}
+use Rattle.sheet.proofs.Laws.{orElse-pass, test-pass, sheet-form}
 use Rattle.comparison.specs.Matrices.{same, sameMatrix}
+
+pub accepted-short : (s : List ℕ) → sheetTests Plain s ≡ pass → length s ≤ maxSheet
+accepted-short s z = ltb-false maxSheet (length s) (test-pass 1 (ltb maxSheet (length s))
+    (orElse-pass (test 1 (ltb maxSheet (length s))) (recordsTests s 3 orElse testAt 5 (Byte (startOf s 3)) (ltb (startOf s 3) (length s))) (sheet-form s Plain z) .0))
 
 -- ---- lists with the same entries
 pub same-self : (xs : List ℕ) → same xs xs ≡ true

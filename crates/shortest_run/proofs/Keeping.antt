@@ -4,26 +4,15 @@ use mathlib.Core.Bool.{true, false, true≢false}
 use mathlib.Core.List.{List}
 use Prim.Native.Nat.{ℕ, _≤_}
 use native.Mathlib.Omega.{arith}
-use borrow.Author.Tests.{ltb-false}
-use lib.Dec.{ltb}
 use lib.ListN.{length, getD, take}
 use Rattle.exact.specs.Table.{table}
 use Rattle.exact.proofs.Fill.{table-is}
-use Rattle.verdict.specs.Answer.{pass, test, testAt, _orElse_}
-use Rattle.verdict.specs.declared.Place.the-variants.{Byte}
-use Rattle.verdict.specs.declared.Rule.the-variants.{Plain}
-use Rattle.records.specs.Form.{maxSheet, startOf, recordsTests}
+use Rattle.records.specs.Form.{maxSheet}
 use Rattle.records.proofs.Decoding.{front-is, front-length, front-there}
-use Rattle.reading.specs.Tests.{sheetTests}
-use Rattle.sheet.proofs.Laws.{orElse-pass, test-pass, sheet-form}
+use Rattle.comparison.proofs.Laws.{accepted-short}
 use Rattle.shortest_theory.specs.Run.{Winner, none, won, numberOf}
 use Rattle.shortest_run.specs.declared.Run.{Run}
 use Rattle.shortest_run.specs.Kept.{heldBytes, NoWinner, IsWinner, KeepsWinner, Keeps, Held}
-
--- an accepted sheet is not above the limit
-pub short : (s : List ℕ) → sheetTests Plain s ≡ pass → length s ≤ maxSheet
-short s z = ltb-false maxSheet (length s) (test-pass 1 (ltb maxSheet (length s))
-    (orElse-pass (test 1 (ltb maxSheet (length s))) (recordsTests s 3 orElse testAt 5 (Byte (startOf s 3)) (ltb (startOf s 3) (length s))) (sheet-form s Plain z) .0))
 
 front : (s : List ℕ) → take (length s) (heldBytes s) ≡ s
 front s = front-is 0 maxSheet (length s) (λ k. getD s k 0) (heldBytes s) refl ∙ sym (table-is 0 (λ k. getD s k 0) (length s) s refl (λ k _. refl))
@@ -44,7 +33,7 @@ module _ (a : Run) where
     some (won k s) h f = f k s h
 
     pub room : Held a → a .length ≤ length (a .bytes)
-    room h = some (h .state .winner) (h .keeps .winner) (λ k s w. omega (arith, w .long, front-there 0 maxSheet (length s) (λ i. getD s i 0) (a .bytes) (w .bytes) (short s (w .accepted))))
+    room h = some (h .state .winner) (h .keeps .winner) (λ k s w. omega (arith, w .long, front-there 0 maxSheet (length s) (λ i. getD s i 0) (a .bytes) (w .bytes) (accepted-short s (w .accepted))))
 
     pub lent : Held a → a .length ≡ length (take (a .length) (a .bytes))
     lent h = some (h .state .winner) (h .keeps .winner) (λ k s w. w .long ∙ ap length (sym (front-of k s w)))

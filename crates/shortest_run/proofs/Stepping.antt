@@ -20,6 +20,7 @@ use Rattle.records.specs.Form.{maxSheet}
 use Rattle.reading.specs.Tests.{sheetTests}
 use Rattle.sheet.proofs.Laws.{orElse-pass}
 use Rattle.comparison.specs.Matrices.{sameMatrix}
+use Rattle.comparison.proofs.Laws.{accepted-short}
 use Rattle.planner.specs.Compared.{comparedTests, lengthBeside, Chosen}
 use Rattle.planner.specs.declared.Choice.{Choice}
 use Rattle.planner.specs.declared.Choice.the-variants.{Refused, First, Second}
@@ -29,7 +30,7 @@ use Rattle.shortest_run.specs.declared.Run.{Run}
 use Rattle.shortest_run.specs.declared.Stepped.{Stepped}
 use Rattle.shortest_run.specs.declared.Answered.{Answered}
 use Rattle.shortest_run.specs.Kept.{NoWinner, IsWinner, KeepsWinner, Keeps, Held, Passed, Won, StepsFrom, Steps, TurnsFrom, Turned}
-use Rattle.shortest_run.proofs.Keeping.{short, front-of, number-of, some}
+use Rattle.shortest_run.proofs.Keeping.{front-of, number-of}
 
 -- ---- the comparison as the definitions have it
 less-true : (a b : ℤ) → a <ᶻ b → ltZ a b ≡ true
@@ -89,7 +90,7 @@ module _ (a : Run) (t : List ℕ) where
         by (won k s) h = absurd (true≢false (sym (h .found) ∙ down))
 
     pub fits : v ≡ verdict.Accepted → length t ≤ maxSheet
-    fits e = short t (sym z ∙ ap answerOf e)
+    fits e = accepted-short t (sym z ∙ ap answerOf e)
 
   -- ---- beside the winner
   module _ (up : a .found ≡ true) where
@@ -105,7 +106,7 @@ module _ (a : Run) (t : List ℕ) where
     second-passes s e = orElse-pass (sheetTests Plain t) (test 27 (not (sameMatrix s t))) (orElse-pass (sheetTests Plain s) (sheetTests Plain t orElse test 27 (not (sameMatrix s t))) e .1) .0
 
     pub fits-beside : Chosen lent t Second → length t ≤ maxSheet
-    fits-beside c = short t (second-passes lent (c .0))
+    fits-beside c = accepted-short t (second-passes lent (c .0))
 
     -- each of the three choices, by the winner's own bytes
     by-winner : (v : Verdict) (r : Run) → r .count ≡ a .count + 1
