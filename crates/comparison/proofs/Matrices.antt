@@ -1,21 +1,14 @@
 -- Two sheets have one matrix exactly where their rows agree.
-use mathlib.Core.Path.{_≡_, refl, sym, _∙_, ap, ap₂, subst}
-use mathlib.Core.Bool.{Bool, true, false, not, _&&_, _||_, true≢false}
-use mathlib.Core.List.{List, [], _∷_}
-use Prim.Native.Nat.{ℕ, zero, suc, _+_, _-_, _*_, _≤_, _<_}
+use mathlib.Core.Path.{_≡_, refl, sym, _∙_}
+use mathlib.Core.Bool.{Bool, true, false, true≢false}
+use mathlib.Core.List.{List}
+use Prim.Native.Nat.{ℕ, _<_}
 use native.Mathlib.Omega.{arith}
-use borrow.Author.Tests.{eq-eqb, ne-eqb, eqb-true, ltb-false, not-false}
-use lib.Dec.{eqb, ltb}
-use lib.ListN.{length}
-use Rattle.verdict.specs.declared.Place.the-variants.{Byte}
-use Rattle.verdict.specs.declared.Rule.the-variants.{Plain}
-use Rattle.verdict.specs.Answer.{Answer, pass, test, testAt, _orElse_}
+use borrow.Author.Tests.{eq-eqb, ne-eqb}
 use Rattle.matrix.specs.Place.{pairCount}
-use Rattle.records.specs.Form.{maxSheet, bodyAt, sizeAt, endAt, headCut, bodyCut, kindAt, countAt, countsSize, countsOut, bodyLength, noVertices, kindOf, startOf, recordTests, recordsTests, formTests}
 use Rattle.reading.specs.Holds.{strainsOf, rowAt, distancesOf}
-use Rattle.reading.specs.Tests.{sheetTests}
-use Rattle.sheet.proofs.Laws.{same-matrix, same-rows, orElse-pass, testAt-pass, sheet-form}
-use Rattle.comparison.specs.Matrices.{same, sameMatrix, SameRows}
+use Rattle.sheet.proofs.Laws.{same-matrix, same-rows}
+use Rattle.comparison.specs.Matrices.{sameMatrix, SameRows}
 use Rattle.comparison.proofs.Laws.{same-self, one-matrix}
 
 -- ---- one matrix

@@ -1,14 +1,14 @@
 -- The tree length of an accepted sheet, from its third record; and of any sheet, by its verdict.
 use mathlib.Core.Path.{_≡_, refl, sym, _∙_, ap, ap₂}
 use mathlib.Core.List.{List}
-use Prim.Native.Nat.{ℕ, _+_, _-_, _*_, _≤_, _<_}
+use Prim.Native.Nat.{ℕ, _+_, _*_, _≤_, _<_}
 use native.Mathlib.Omega.{arith}
 use lib.IntN.{ℤ, pos, natAbs}
-use lib.ListN.{length, getD}
+use lib.ListN.{length}
 use mir.Syntax.{w64}
 use mir.Val.{toZ, ofZ}
 use Rattle.exact.specs.Sum.{sum}
-use Rattle.exact.specs.Table.{table, padded, entryOf}
+use Rattle.exact.specs.Table.{padded, entryOf}
 use Rattle.exact.proofs.Fill.{length-table, getD-table}
 use Rattle.exact.proofs.Sum.{sum-cong}
 use Rattle.exact.proofs.Sweep.{sum-abs}

@@ -1,11 +1,11 @@
 -- The line of an answer, piece by piece.
-use mathlib.Core.Path.{_≡_, sym, _∙_, ap, subst}
+use mathlib.Core.Path.{_≡_, sym, subst}
 use mathlib.Core.List.{List, [], _∷_, _++_}
 use Prim.Native.Nat.{ℕ, _≤_, _<_}
 use native.Mathlib.Omega.{arith}
 use lib.IntN.{pos}
 use lib.ListN.{length, length-append}
-use Rattle.verdict.specs.Answer.{Answer, answerOf, numberOf, refusalOf}
+use Rattle.verdict.specs.Answer.{answerOf, numberOf}
 use Rattle.verdict.specs.declared.Refusal.{Refusal}
 use Rattle.verdict.specs.declared.Verdict.{Verdict}
 use Rattle.verdict.specs.declared.Verdict.the-variants.{Accepted, Refused}

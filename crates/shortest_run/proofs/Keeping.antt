@@ -1,18 +1,17 @@
 -- What a value keeps: the winner's sheet fits, it can be lent from the front of its table, and the number is the winner's.
-use mathlib.Core.Path.{_≡_, refl, sym, _∙_, ap, ap₂, subst}
+use mathlib.Core.Path.{_≡_, refl, sym, _∙_, ap, ap₂}
 use mathlib.Core.Bool.{true, false, true≢false}
 use mathlib.Core.List.{List}
 use Prim.Native.Nat.{ℕ, _≤_}
 use native.Mathlib.Omega.{arith}
 use lib.ListN.{length, getD, take}
-use Rattle.exact.specs.Table.{table}
 use Rattle.exact.proofs.Fill.{table-is}
 use Rattle.records.specs.Form.{maxSheet}
-use Rattle.records.proofs.Decoding.{front-is, front-length, front-there}
+use Rattle.records.proofs.Decoding.{front-is, front-there}
 use Rattle.comparison.proofs.Laws.{accepted-short}
 use Rattle.shortest_theory.specs.Run.{Winner, none, won, numberOf}
 use Rattle.shortest_run.specs.declared.Run.{Run}
-use Rattle.shortest_run.specs.Kept.{heldBytes, NoWinner, IsWinner, KeepsWinner, Keeps, Held}
+use Rattle.shortest_run.specs.Kept.{heldBytes, IsWinner, KeepsWinner, Held}
 
 front : (s : List ℕ) → take (length s) (heldBytes s) ≡ s
 front s = front-is 0 maxSheet (length s) (λ k. getD s k 0) (heldBytes s) refl ∙ sym (table-is 0 (λ k. getD s k 0) (length s) s refl (λ k _. refl))

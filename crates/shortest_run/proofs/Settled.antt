@@ -1,6 +1,6 @@
 -- One possible result: a state is kept by one value (`one-kept`), so a run that is held has one step (`one-step`), and one line and one text
 -- (`one-turn`).
-use mathlib.Core.Path.{_≡_, refl, sym, _∙_, ap, ap₂}
+use mathlib.Core.Path.{_≡_, sym, _∙_, ap, ap₂}
 use mathlib.Core.Bool.{Bool}
 use mathlib.Core.List.{List}
 use Prim.Native.Nat.{ℕ}

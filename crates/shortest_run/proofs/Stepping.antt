@@ -1,5 +1,5 @@
 -- One sheet of a run, by the choice between the winner and it, or by its own answer while there is no winner.
-use mathlib.Core.Path.{_≡_, refl, sym, _∙_, ap, ap₂, subst, subst₂}
+use mathlib.Core.Path.{_≡_, refl, sym, _∙_, ap, subst, subst₂}
 use mathlib.Core.Bool.{Bool, true, false, cond, not, true≢false}
 use mathlib.Core.List.{List}
 use Prim.Native.Nat.{ℕ, _+_, _≤_}
@@ -22,14 +22,12 @@ use Rattle.sheet.proofs.Laws.{orElse-pass}
 use Rattle.comparison.specs.Matrices.{sameMatrix}
 use Rattle.comparison.proofs.Laws.{accepted-short}
 use Rattle.planner.specs.Compared.{comparedTests, lengthBeside, Chosen}
-use Rattle.planner.specs.declared.Choice.{Choice}
 use Rattle.planner.specs.declared.Choice.the-variants.{Refused, First, Second}
 use Rattle.shortest_lines.specs.Answered.{lineOf}
-use Rattle.shortest_theory.specs.Run.{Winner, none, won, State, answer, shorter, winnerAfter, step, numberOf, lineAt}
+use Rattle.shortest_theory.specs.Run.{Winner, none, won, answer, shorter, winnerAfter, step}
 use Rattle.shortest_run.specs.declared.Run.{Run}
 use Rattle.shortest_run.specs.declared.Stepped.{Stepped}
-use Rattle.shortest_run.specs.declared.Answered.{Answered}
-use Rattle.shortest_run.specs.Kept.{NoWinner, IsWinner, KeepsWinner, Keeps, Held, Passed, Won, StepsFrom, Steps, TurnsFrom, Turned}
+use Rattle.shortest_run.specs.Kept.{NoWinner, IsWinner, KeepsWinner, Passed, Won, Steps, Turned}
 use Rattle.shortest_run.proofs.Keeping.{front-of, number-of}
 
 -- ---- the comparison as the definitions have it

@@ -1,7 +1,7 @@
 -- Which state of a run a value is: it keeps that state and nothing else, with zeros behind the winner's sheet and everywhere where there is
 -- no winner.
 use mathlib.Core.Path.{_≡_}
-use mathlib.Core.Bool.{Bool, true, false}
+use mathlib.Core.Bool.{true, false}
 use mathlib.Core.List.{List}
 use Prim.Native.Nat.{ℕ, _+_}
 use lib.ListN.{length, getD}

@@ -1,6 +1,6 @@
 -- What a sheet does in a run, for the rooms above: a refused one changes nothing but how many there are; an accepted one's line names the winner
 -- after it; 27 is by the matrix of the first accepted sheet; and all sheets above the limit are alike.
-use mathlib.Core.Path.{_≡_, refl, sym, _∙_, ap, ap₂, subst}
+use mathlib.Core.Path.{_≡_, refl, sym, _∙_, ap, ap₂}
 use mathlib.Core.Bool.{Bool, true, false, cond, not}
 use mathlib.Core.List.{List, [], _∷_}
 use Prim.Native.Nat.{ℕ, suc, _<_}
@@ -22,7 +22,7 @@ use Rattle.comparison.specs.Matrices.{sameMatrix}
 use Rattle.comparison.proofs.Laws.{matrix-same}
 use Rattle.shortest_lines.specs.Answered.{bestWord, lineOf}
 use Rattle.shortest_theory.specs.Run.{Winner, none, won, State, answer, beats, shorter, step, numberOf, lineAt}
-use Rattle.shortest_theory.specs.Promises.{Numbered, Accepted, FirstAccepted, FirstOfTheShortest, WinnerOf, Behind}
+use Rattle.shortest_theory.specs.Promises.{FirstAccepted, WinnerOf}
 
 -- a winner that there is
 Some : Winner → Type 0

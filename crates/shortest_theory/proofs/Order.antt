@@ -4,7 +4,7 @@ use mathlib.Core.Path.{_≡_, refl}
 use mathlib.Core.List.{List, [], _∷_}
 use mathlib.Core.Logic.{_⊎_, inl, inr}
 use Prim.Native.Nat.{ℕ}
-use lib.IntN.{ℤ, pos, _*ℤ_, _+ℤ_, _-ℤ_}
+use lib.IntN.{ℤ, pos, _*ℤ_}
 use lib.Signed.{clashℤ}
 use Rattle.exact.specs.Order.{_≤ᶻ_, _<ᶻ_}
 use Rattle.exact.proofs.Order.{nn+, nn-pos, nn-sub, le-by, pos-≤, ≤-trans, ≤-of-≡, *-mono, *-cancel, <-is, is-<, total}

@@ -1,5 +1,4 @@
 -- Each turn takes a piece off, and something of it.
-use native.Mathlib.Omega.{arith}
 use borrow.Author.Needs.{needs}
 use Rattle.shortest.proofs.passed_by.Statement.{statement}
 use Rattle.shortest.proofs.passed_by.Tie as tie
