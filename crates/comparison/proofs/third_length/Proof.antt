@@ -74,10 +74,12 @@ u32-at-requires : tie.Need-u32-at-requires
 u32-at-requires c κs = omega (arith, room (c .before .before .before .before .before))
 
 returns : tie.Need-returns
-returns c = let t = c .before in let m = t .before .before in let u = m .before in let r = u .before .before in let p = r .before .before in
-    (refl, length-of (sheet p) (p .pre) (t .total .result) (c .u32-at .result)
-    (t .total .ensures ∙ ap₂ (λ (n : ℕ) (ns : List ℤ). sum n (entryOf ns)) (edges u) (held m))
-    (denominator-is (sheet p) (p .pre) (getD (r .records .result .starts) 2 0) (starts r) (c .u32-at .result) (c .u32-at .ensures)))
+returns c = let t = c .before in let m = t .before .before in let u = m .before in let r = u .before .before in let p = r .before .before in (
+  refl,
+  length-of (sheet p) (p .pre) (t .total .result) (c .u32-at .result)
+      (t .total .ensures ∙ ap₂ (λ (n : ℕ) (ns : List ℤ). sum n (entryOf ns)) (edges u) (held m))
+      (denominator-is (sheet p) (p .pre) (getD (r .records .result .starts) 2 0) (starts r) (c .u32-at .result) (c .u32-at .ensures)),
+)
 
 pub third-length-spec : {M : Type 1} → statement M
 third-length-spec =
