@@ -11,6 +11,7 @@ ghost use Rattle.lines.specs.Page.{widest};
 ghost use Rattle.records.specs.Form.{maxSheet};
 ghost use Rattle.shortest_run.specs.Kept.{Held};
 ghost use Rattle.shortest.specs.Goes.{Goes};
+ghost use Rattle.shortest.specs.Framed.{cameOf, leadOf};
 
 // The bytes of a length.
 const LEAD: usize = 4;
@@ -38,7 +39,9 @@ enum Came {
     Failed,
 }
 
-fn what_came(taken: Taken, due: usize) -> Came {
+fn what_came(taken: Taken, due: usize) -> Came
+    ensures { λ r. ⌜ r ≡ cameOf taken due ⌝ }
+{
     if !taken.whole {
         return Came::Failed;
     }
@@ -46,6 +49,29 @@ fn what_came(taken: Taken, due: usize) -> Came {
         return Came::Cut;
     }
     Came::Whole
+}
+
+// What stands before a sheet: the end of the run, a length that is cut, or a length.
+enum Lead {
+    End,
+    Broken,
+    Length(usize),
+}
+
+fn lead_of(taken: Taken, lead: &[u8]) -> Lead
+    requires { ⌜ length (now lead) ≡ 4 ⌝ }
+    ensures { λ r. ⌜ r ≡ leadOf taken (now (lead .entry)) ⌝ }
+{
+    if !taken.whole {
+        return Lead::End;
+    }
+    if taken.count == 0 {
+        return Lead::End;
+    }
+    if taken.count < LEAD {
+        return Lead::Broken;
+    }
+    Lead::Length(endian::u32_at(lead, 0) as usize)
 }
 
 // The run is over.
@@ -160,6 +186,18 @@ fn long_sheet(run: Run, size: usize) -> Next
     }
 }
 
+// A sheet of so many bytes.
+fn sized_sheet(run: Run, size: usize) -> Next
+    requires { ⌜ Held run ⌝ }
+    requires { ⌜ run .count + 1 < 2 ^ 64 ⌝ }
+    ensures { λ r. ⌜ Goes run r ⌝ }
+{
+    if size > Layout::MAX_SHEET {
+        return long_sheet(run, size);
+    }
+    short_sheet(run, size)
+}
+
 // The next sheet of standard input, with its length before it, or the end.
 fn next_sheet(run: Run) -> Next
     requires { ⌜ Held run ⌝ }
@@ -168,17 +206,11 @@ fn next_sheet(run: Run) -> Next
 {
     let mut lead = [0; LEAD];
     let taken = streams::take_in(&mut lead);
-    if !taken.whole || taken.count == 0 {
-        return over(run);
+    match lead_of(taken, &lead) {
+        Lead::End => over(run),
+        Lead::Broken => cut(run),
+        Lead::Length(size) => sized_sheet(run, size),
     }
-    if taken.count < LEAD {
-        return cut(run);
-    }
-    let size = endian::u32_at(&lead, 0) as usize;
-    if size > Layout::MAX_SHEET {
-        return long_sheet(run, size);
-    }
-    short_sheet(run, size)
 }
 
 // Sheet after sheet. Each takes a number below 2^64, and a run of so many sheets ends there.
