@@ -1,3 +1,5 @@
 pub mod Cross
+pub mod Inside
+pub mod Laws
 pub mod Matrices
 pub mod Measuring

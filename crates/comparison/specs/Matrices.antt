@@ -1,17 +1,11 @@
 -- RULES, Which of two trees is shorter: when two sheets have one matrix.
 use mathlib.Core.Path.{_≡_}
 use mathlib.Core.Bool.{Bool, true, false, _&&_}
-use mathlib.Core.List.{List, [], _∷_}
+use mathlib.Core.List.{List}
 use Prim.Native.Nat.{ℕ, _<_}
 use lib.Dec.{eqb}
+use Rattle.digits.specs.Digits.{same}
 use Rattle.reading.specs.Holds.{strainsOf, rowAt, distancesOf}
-
--- two lists have the same entries
-unfoldable pub same : List ℕ → List ℕ → Bool
-same [] [] = true
-same [] (y ∷ ys) = false
-same (x ∷ xs) [] = false
-same (x ∷ xs) (y ∷ ys) = eqb x y && same xs ys
 
 -- two sheets have one matrix: the same N, and every pair the same; a missing pair is the same as a missing pair alone
 abbrev pub sameMatrix : List ℕ → List ℕ → Bool

@@ -13,7 +13,7 @@ ghost use Rattle.lengths.specs.Limits.{maxDenominator};
 ghost use Rattle.reporting.specs.Answers.{maxTreeLength};
 ghost use Rattle.records.specs.Form.{bodyAt};
 ghost use Rattle.reading.specs.Tests.{sheetTests};
-ghost use Rattle.comparison.specs.Measured.{Measured};
+ghost use Rattle.comparison.specs.Measured.{LengthOf, Measured};
 ghost use Rattle.comparison.specs.Matrices.{SameRows, sameMatrix};
 
 // The answer to a sheet, and its tree length as a numerator over a denominator: zeros where it is refused.
@@ -23,16 +23,34 @@ pub struct TreeLength {
     pub denominator: u32,
 }
 
+// The tree length of an accepted sheet, from its third record.
+fn third_length(s: &[u8]) -> TreeLength
+    requires { ⌜ sheetTests Rule.Plain (now s) ≡ pass ⌝ }
+    ensures { λ r. ⌜ (r .verdict ≡ Verdict.Accepted) × LengthOf (now (s .entry)) r ⌝ }
+{
+    let laid = records::records(s, 3);
+    let body = laid.starts[2] + Layout::HEAD;
+    let edges = endian::u16_at(s, body + 4) as usize;
+    let numerators = decoding::numerators(s, body + 6, edges);
+    let numerator = fit_numbers::total(edges, &numerators);
+    TreeLength {
+        verdict: Verdict::Accepted,
+        numerator,
+        denominator: endian::u32_at(s, body),
+    }
+}
+
 pub fn tree_length(s: &[u8]) -> TreeLength
     ensures { λ r. ⌜ Measured (now (s .entry)) r ⌝ }
 {
-    let fit = sheet::sheet_report(Rule::Plain, s);
-    let report = fit.report;
-    let answer = report.verdict;
-    TreeLength {
-        verdict: answer,
-        numerator: report.length,
-        denominator: report.denominator,
+    let answer = sheet::sheet_judge(Rule::Plain, s);
+    match answer {
+        Verdict::Refused(_) => TreeLength {
+            verdict: answer,
+            numerator: 0,
+            denominator: 0,
+        },
+        Verdict::Accepted => third_length(s),
     }
 }
 

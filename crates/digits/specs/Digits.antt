@@ -9,7 +9,7 @@ unfoldable pub run : (ℕ → Bool) → List ℕ → ℕ
 run p [] = 0
 run p (x ∷ xs) = cond (p x) (suc (run p xs)) 0
 
--- two texts are the same
+-- two lists have the same entries
 unfoldable pub same : List ℕ → List ℕ → Bool
 same [] [] = true
 same [] (y ∷ ys) = false

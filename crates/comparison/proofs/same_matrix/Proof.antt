@@ -4,7 +4,8 @@ use Prim.Native.Nat.{ℕ}
 use native.Mathlib.Omega.{arith}
 use borrow.Author.Needs.{needs}
 use Rattle.matrix.specs.Place.{pairCount}
-use Rattle.comparison.proofs.Matrices.{rows-there, other-strains, by-rows}
+use Rattle.comparison.proofs.Inside.{rows-there}
+use Rattle.comparison.proofs.Matrices.{other-strains, by-rows}
 use Rattle.comparison.proofs.same_matrix.Statement.{statement}
 use Rattle.comparison.proofs.same_matrix.Tie as tie
 

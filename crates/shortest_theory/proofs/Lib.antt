@@ -1,0 +1,3 @@
+pub mod Order
+pub mod Runs
+pub mod Laws
