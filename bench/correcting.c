@@ -5,7 +5,7 @@
 #include <stdlib.h>
 
 #include "timing.h"
-#include "trees.h"
+#include "matrices.h"
 
 uint32_t corrected(uint32_t n, uint16_t *distances, size_t pairs, const uint8_t *parents, size_t edges, int64_t *sums,
                    int64_t *counts, uint32_t i, uint32_t j, uint16_t far);
@@ -41,10 +41,7 @@ int main(void) {
     for (n = 16; n <= 64; n *= 2) {
         edges = 2 * n - 3;
         for (int shape = 0; shape < 3; shape++) {
-            grow(parents, n, shape);
-            for (uint32_t p = 0; p < n * (n - 1) / 2; p++) {
-                distances[p] = (uint16_t)chance(50001);
-            }
+            draw(parents, distances, n, shape);
             for (int k = 0; k < LISTED; k++) {
                 is[k] = chance(n);
                 do {

@@ -5,7 +5,7 @@
 
 #include "resolved.h"
 #include "timing.h"
-#include "trees.h"
+#include "matrices.h"
 #include "vamuthexa.h"
 
 static uint16_t distances[2016];
@@ -30,10 +30,7 @@ int main(void) {
     for (n = 16; n <= 64; n *= 2) {
         edges = 2 * n - 3;
         for (int shape = 0; shape < 3; shape++) {
-            grow(parents, n, shape);
-            for (uint32_t p = 0; p < n * (n - 1) / 2; p++) {
-                distances[p] = (uint16_t)chance(50001);
-            }
+            draw(parents, distances, n, shape);
             ours();
             plain();
             if (number != 0 || memcmp(tops[0], tops[1], edges * sizeof tops[0][0]) != 0 ||
