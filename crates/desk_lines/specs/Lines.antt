@@ -1,19 +1,16 @@
 -- What is read of a line: the meaning of the definitions, with its numbers cut to their fields and its tables at the front of lent ones.
 use mathlib.Core.Path.{_≡_}
-use mathlib.Core.Bool.{Bool, true, false, cond, _&&_}
-use mathlib.Core.List.{List, _∷_}
+use mathlib.Core.Bool.{cond, _&&_}
+use mathlib.Core.List.{List}
 use Prim.Native.Nat.{ℕ, _≤_}
 use lib.IntN.{ℤ}
 use lib.ListN.{length, take, drop}
 use Rattle.desk_theory.specs.Desk as calls
 use Rattle.desk_text.specs.Words.{isNumber, valueOf}
-use Rattle.desk_text.specs.Meaning.{Meaning, silent, wrong, call, shows, noMore, wordAt, postIn, proposeIn, correctIn, benchIn, ofWords, maxLine, meaningOf}
+use Rattle.desk_text.specs.Meaning.{Meaning, silent, wrong, call, shows, noMore, wordAt}
 use Rattle.desk_text.specs.Fields.{cutWord, cut}
-use Rattle.desk_words.specs.Reads.{wordsAt}
 use Rattle.desk_posts.specs.Posts.{asPosting}
 use Rattle.desk_lines.specs.declared.Bench.{Bench}
-use Rattle.desk_lines.specs.declared.Kind as kinds
-use Rattle.desk_lines.specs.declared.Head.{Head}
 use Rattle.desk_lines.specs.declared.Line.{Line}
 use Rattle.desk_lines.specs.declared.Line.the-variants.{Silent, Wrong, Posting, Correcting, Proposing, Withdrawing, Reporting}
 
@@ -45,33 +42,3 @@ Within ds ps ns (Reporting b) = Unit {0}
 pub record LineIs (m : Meaning) (ds ps : List ℕ) (ns : List ℤ) (r : Line) : Type 0 where
   pub means : asMeaning ds ps ns r ≡ cut m
   pub within : Within ds ps ns r
-
--- what a line of a kind means, by the words behind the first
-abbrev pub ofKind : kinds.Kind → List (List ℕ) → Meaning
-ofKind kinds.the-variants.Silent ws = silent
-ofKind kinds.the-variants.Wrong ws = wrong
-ofKind kinds.the-variants.Post ws = postIn ws
-ofKind kinds.the-variants.Propose ws = proposeIn ws
-ofKind kinds.the-variants.Correct ws = correctIn ws
-ofKind kinds.the-variants.Withdraw ws = benchIn (λ b. call (calls.withdraw b)) ws
-ofKind kinds.the-variants.Report ws = benchIn shows ws
-
--- the kind that the first word makes a line
-abbrev pub KindOf : List ℕ → kinds.Kind → Type 0
-KindOf w k = (ws : List (List ℕ)) → ofWords (w ∷ ws) ≡ ofKind k ws
-
--- a kind that has something to be read behind the first word
-abbrev pub isCall : kinds.Kind → Bool
-isCall kinds.the-variants.Silent = false
-isCall kinds.the-variants.Wrong = false
-isCall kinds.the-variants.Post = true
-isCall kinds.the-variants.Propose = true
-isCall kinds.the-variants.Correct = true
-isCall kinds.the-variants.Withdraw = true
-isCall kinds.the-variants.Report = true
-
--- the kind of a line, and where the words behind its first begin
-pub record HeadRead (s : List ℕ) (r : Head) : Type 0 where
-  pub means : meaningOf s ≡ ofKind (r .kind) (wordsAt s (r .end))
-  pub within : r .end ≤ length s
-  pub short : isCall (r .kind) ≡ true → length s ≤ maxLine

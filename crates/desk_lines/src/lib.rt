@@ -1,4 +1,4 @@
-// What a line means, read from its bytes: nothing, a call whose tables stand at the front of lent ones, or nothing that has a form.
+// What stands behind a line's first word, read from its bytes: a call whose tables stand at the front of lent ones, or nothing that has a form.
 use desk_posts::Post;
 ghost use mathlib.Core.Path.{_≡_};
 ghost use mathlib.Core.List.{List};
@@ -6,14 +6,9 @@ ghost use Prim.Native.Nat.{ℕ, _≤_};
 ghost use lib.IntN.{ℤ};
 ghost use lib.ListN.{length};
 ghost use Rattle.desk_theory.specs.Desk.{withdraw};
-ghost use Rattle.desk_text.specs.Meaning.{call, shows, maxLine, maxWords, postIn, proposeIn, correctIn, benchIn, meaningOf};
+ghost use Rattle.desk_text.specs.Meaning.{call, shows, maxLine, maxWords, postIn, proposeIn, correctIn, benchIn};
 ghost use Rattle.desk_words.specs.Reads.{wordsAt};
-ghost use Rattle.desk_lines.specs.Lines.{BenchRead, KindOf, HeadRead, LineIs};
-
-// The most bytes that a line may have without its end, and the most words that it can then have.
-pub const MAX_LINE: usize = 16384;
-
-pub const MAX_WORDS: usize = 8192;
+ghost use Rattle.desk_lines.specs.Lines.{BenchRead, LineIs};
 
 // A correction.
 pub struct Correct {
@@ -40,7 +35,7 @@ pub enum Line {
 }
 
 // Behind "post".
-fn posting_line(
+pub fn posting_line(
     line: &[u8],
     at: usize,
     numbers: &mut [u16],
@@ -58,7 +53,7 @@ fn posting_line(
 }
 
 // Behind "propose".
-fn propose_line(line: &[u8], at: usize, numerators: &mut [i64]) -> Line
+pub fn propose_line(line: &[u8], at: usize, numerators: &mut [i64]) -> Line
     requires { ⌜ (at ≤ length (now line)) × (length (now line) ≤ maxLine) × (maxWords ≤ length (now numerators)) ⌝ }
     ensures { λ r. ⌜ ((ds ps : List ℕ) → LineIs (proposeIn (wordsAt (now (line .entry)) at)) ds ps (now (numerators .exit)) r) ⌝ }
 {
@@ -82,7 +77,7 @@ fn propose_line(line: &[u8], at: usize, numerators: &mut [i64]) -> Line
 }
 
 // Behind "correct".
-fn correct_line(line: &[u8], at: usize) -> Line
+pub fn correct_line(line: &[u8], at: usize) -> Line
     requires { ⌜ at ≤ length (now line) ⌝ }
     ensures { λ r. ⌜ ((ds ps : List ℕ) (ns : List ℤ) → LineIs (correctIn (wordsAt (now (line .entry)) at)) ds ps ns r) ⌝ }
 {
@@ -139,7 +134,7 @@ fn bench_of(line: &[u8], at: usize) -> Bench
 }
 
 // Behind "withdraw".
-fn withdraw_line(line: &[u8], at: usize) -> Line
+pub fn withdraw_line(line: &[u8], at: usize) -> Line
     requires { ⌜ at ≤ length (now line) ⌝ }
     ensures { λ r. ⌜ ((ds ps : List ℕ) (ns : List ℤ) → LineIs (benchIn (λ b. call (withdraw b)) (wordsAt (now (line .entry)) at)) ds ps ns r) ⌝ }
 {
@@ -151,7 +146,7 @@ fn withdraw_line(line: &[u8], at: usize) -> Line
 }
 
 // Behind "report".
-fn report_line(line: &[u8], at: usize) -> Line
+pub fn report_line(line: &[u8], at: usize) -> Line
     requires { ⌜ at ≤ length (now line) ⌝ }
     ensures { λ r. ⌜ ((ds ps : List ℕ) (ns : List ℤ) → LineIs (benchIn shows (wordsAt (now (line .entry)) at)) ds ps ns r) ⌝ }
 {
@@ -160,97 +155,4 @@ fn report_line(line: &[u8], at: usize) -> Line
         return Line::Wrong;
     }
     Line::Reporting(read.bench)
-}
-
-// What a line is by its first word.
-enum Kind {
-    Silent,
-    Wrong,
-    Post,
-    Propose,
-    Correct,
-    Withdraw,
-    Report,
-}
-
-fn kind_of(word: &[u8]) -> Kind
-    ensures { λ r. ⌜ KindOf (now (word .entry)) r ⌝ }
-{
-    if desk_words::same(word, b"post") {
-        return Kind::Post;
-    }
-    if desk_words::same(word, b"propose") {
-        return Kind::Propose;
-    }
-    if desk_words::same(word, b"correct") {
-        return Kind::Correct;
-    }
-    if desk_words::same(word, b"withdraw") {
-        return Kind::Withdraw;
-    }
-    if desk_words::same(word, b"report") {
-        return Kind::Report;
-    }
-    Kind::Wrong
-}
-
-// The kind of a line, and where its first word ends.
-struct Head {
-    kind: Kind,
-    end: usize,
-}
-
-fn head_of(line: &[u8]) -> Head
-    ensures { λ r. ⌜ HeadRead (now (line .entry)) r ⌝ }
-{
-    if line.len() > MAX_LINE {
-        return Head {
-            kind: Kind::Wrong,
-            end: 0,
-        };
-    }
-    if digits::byte_at(line, 0) == 35 {
-        return Head {
-            kind: Kind::Silent,
-            end: 0,
-        };
-    }
-    let first = desk_words::word_at(line, 0);
-    let start = first.start;
-    let end = first.end;
-    if start == end {
-        return Head {
-            kind: Kind::Silent,
-            end,
-        };
-    }
-    Head {
-        kind: kind_of(&line[start..end]),
-        end,
-    }
-}
-
-// What a line means; its tables stand at the front of the lent ones.
-pub fn read_line(
-    line: &[u8],
-    numbers: &mut [u16],
-    distances: &mut [u16],
-    parents: &mut [u8],
-    numerators: &mut [i64],
-) -> Line
-    requires { ⌜ (maxWords ≤ length (now numbers)) × (maxWords ≤ length (now distances)) × (maxWords ≤ length (now parents)) × (maxWords ≤ length (now numerators)) ⌝ }
-    ensures { λ r. ⌜ LineIs (meaningOf (now (line .entry))) (now (distances .exit)) (now (parents .exit)) (now (numerators .exit)) r ⌝ }
-{
-    let found = head_of(line);
-    let kind = found.kind;
-    let at = found.end;
-    match kind {
-        Kind::Silent => Line::Silent,
-        Kind::Wrong => Line::Wrong,
-        Kind::Post => posting_line(line, at, numbers, distances, parents),
-        Kind::Propose => propose_line(line, at, numerators),
-        Kind::Correct => correct_line(line, at),
-        Kind::Withdraw => withdraw_line(line, at),
-        Kind::Report => report_line(line, at),
-    }
 }

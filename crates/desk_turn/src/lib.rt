@@ -22,6 +22,6 @@ pub fn tell(
     requires { ⌜ (maxWords ≤ length (now numbers)) × (maxWords ≤ length (now distances)) × (maxWords ≤ length (now parents)) × (maxWords ≤ length (now numerators)) × (pageSize ≤ length (now page)) ⌝ }
     ensures { λ r. ⌜ Responds desk (meaningOf (now (line .entry))) (now (page .entry)) (now (page .exit)) r ⌝ }
 {
-    let meaning = desk_lines::read_line(line, numbers, distances, parents, numerators);
+    let meaning = desk_meaning::read_line(line, numbers, distances, parents, numerators);
     desk_answers::respond(desk, meaning, distances, parents, numerators, page)
 }

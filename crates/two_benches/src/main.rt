@@ -1,7 +1,7 @@
 // Reads calls on a desk from standard input, one a line, and answers each before it reads on: `ok`, the report, `refused`, the number and
 // the place, or `refused line` (RULES, The desk's lines). Where reading or writing fails nothing more is read.
 use desk::Desk;
-use desk_lines::MAX_WORDS;
+use desk_heads::MAX_WORDS;
 use streams::Reading;
 ghost use mathlib.Core.Path.{_≡_};
 ghost use Prim.Native.Nat.{_+_, _≤_, _<_};

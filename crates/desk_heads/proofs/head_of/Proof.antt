@@ -1,8 +1,8 @@
 -- How long the line is, then its first byte, then its first word.
-use Rattle.desk_lines.proofs.Lining.{head-long, head-comment, head-blank, head-word}
+use Rattle.desk_heads.proofs.Heading.{head-long, head-comment, head-blank, head-word}
 use borrow.Author.Needs.{needs}
-use Rattle.desk_lines.proofs.head_of.Statement.{statement}
-use Rattle.desk_lines.proofs.head_of.Tie as tie
+use Rattle.desk_heads.proofs.head_of.Statement.{statement}
+use Rattle.desk_heads.proofs.head_of.Tie as tie
 
 returns : tie.Need-returns
 returns c = head-long _ (c .if1 .taken)

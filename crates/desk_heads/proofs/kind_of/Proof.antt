@@ -1,9 +1,9 @@
 -- The words one by one.
 use mathlib.Core.Path.{sym, _∙_}
-use Rattle.desk_lines.proofs.Lining.{kind-post, kind-propose, kind-correct, kind-withdraw, kind-report, kind-wrong}
+use Rattle.desk_heads.proofs.Heading.{kind-post, kind-propose, kind-correct, kind-withdraw, kind-report, kind-wrong}
 use borrow.Author.Needs.{needs}
-use Rattle.desk_lines.proofs.kind_of.Statement.{statement}
-use Rattle.desk_lines.proofs.kind_of.Tie as tie
+use Rattle.desk_heads.proofs.kind_of.Statement.{statement}
+use Rattle.desk_heads.proofs.kind_of.Tie as tie
 
 slice-aggregate-same : tie.Need-slice-aggregate-same
 slice-aggregate-same c = search needs

@@ -1,11 +1,11 @@
 -- By the kind that the first word makes the line.
 use mathlib.Core.Path.{ap}
-use Rattle.desk_lines.specs.Lines.{isCall}
-use Rattle.desk_lines.specs.declared.Kind.the-variants as kinds
-use Rattle.desk_lines.proofs.Lining.{silent-line, wrong-line, of-kind}
+use Rattle.desk_heads.specs.Heads.{isCall}
+use Rattle.desk_heads.specs.declared.Kind.the-variants as kinds
+use Rattle.desk_meaning.proofs.Kinds.{silent-line, wrong-line, of-kind}
 use borrow.Author.Needs.{needs}
-use Rattle.desk_lines.proofs.read_line.Statement.{statement}
-use Rattle.desk_lines.proofs.read_line.Tie as tie
+use Rattle.desk_meaning.proofs.read_line.Statement.{statement}
+use Rattle.desk_meaning.proofs.read_line.Tie as tie
 
 head-of-requires : tie.Need-head-of-requires
 head-of-requires c κs = search needs
