@@ -362,8 +362,17 @@ def stored():
     return b"\n".join(told)
 
 
+def check_reading():
+    """The request's own example, and every line of desk.py's that is no call."""
+    told = b"post 4 3 7 8 6 9 5 / 4 4 5 5 5\npropose 1 2 3 3 3 7 7\nreport 1\ncorrect 0 3 9\nreport 1\nwithdraw 2\n"
+    due = b"ok\nok\n" + desk.REPORT + b"ok\nrefused 21\nrefused 21\n"
+    assert printed(told) == printed(told[:-1]) == printed(told.replace(b"\n", b"\r\n")) == due
+    assert all(call_of(line) == ("wrong", ()) for line in desk.MALFORMED)
+
+
 def files():
     """What stands in the repository and comes from here."""
+    check_reading()
     told = stored()
     due = printed(told)
     assert len(told) < 60000 and due == desk.lines(told)
