@@ -20,7 +20,7 @@ sys.path.insert(0, os.path.join(HERE, "..", "tests"))
 import make_figures
 import reading
 
-LINES, ROUNDS, N = 2000, 9, 64
+LINES, ROUNDS, N = 2000, 15, 64
 
 
 def seconds(words, given, made):
