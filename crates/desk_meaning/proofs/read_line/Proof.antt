@@ -2,7 +2,7 @@
 use mathlib.Core.Path.{ap}
 use Rattle.desk_heads.specs.Heads.{isCall}
 use Rattle.desk_heads.specs.declared.Kind.the-variants as kinds
-use Rattle.desk_meaning.proofs.Kinds.{silent-line, wrong-line, of-kind}
+use Rattle.desk_meaning.proofs.ByKind.{silent-line, wrong-line, of-kind}
 use borrow.Author.Needs.{needs}
 use Rattle.desk_meaning.proofs.read_line.Statement.{statement}
 use Rattle.desk_meaning.proofs.read_line.Tie as tie
