@@ -1,5 +1,5 @@
 #!/usr/bin/env python3
-"""A plain reading of the desk with its two benches and of the lines that the program `desk` takes, for comparison. It
+"""A plain reading of the desk with its two benches and of the lines that the program `two_benches` takes, for comparison. It
 shares nothing with the crates: the tests and the report are those of reading.py, and numbers are Python's whole numbers,
 so that none is ever cut.
 
