@@ -1,0 +1,4 @@
+pub mod Length
+pub mod Tree
+pub mod Table
+pub mod Tests
