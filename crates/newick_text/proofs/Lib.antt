@@ -1,3 +1,4 @@
 pub mod Trees
 pub mod Totals
 pub mod Texts
+pub mod Planted
