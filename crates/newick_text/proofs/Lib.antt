@@ -2,3 +2,5 @@ pub mod Trees
 pub mod Totals
 pub mod Texts
 pub mod Planted
+pub mod Lookup
+pub mod Once
