@@ -4,3 +4,5 @@ pub mod Texts
 pub mod Planted
 pub mod Lookup
 pub mod Once
+pub mod Back
+pub mod Round
