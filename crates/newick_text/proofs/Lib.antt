@@ -6,3 +6,4 @@ pub mod Lookup
 pub mod Once
 pub mod Back
 pub mod Round
+pub mod Risen

@@ -1,12 +1,14 @@
 -- The tree of a table, unfolded once: the bound by which `treeBelow` recurses does not matter. Nothing later looks at it.
-use mathlib.Core.Path.{_≡_, refl, _∙_, ap, ap₂}
+use mathlib.Core.Path.{_≡_, refl, sym, _∙_, ap, ap₂}
 use mathlib.Core.List.{List}
 use Prim.Native.Nat.{ℕ, zero, suc, _+_, _-_, _<_, _≤_}
+use native.Mathlib.Decide.{decLt}
 use native.Mathlib.Numerals.{add-one}
 use native.Mathlib.Omega.{arith}
 use borrow.Author.Tests.{lt-ltb, le-ltb, eq-eqb, ne-eqb}
 use lib.Dec.{eqb, ltb}
 use lib.ListN.{getD}
+use Rattle.exact.proofs.Decide.{by-cases}
 use Rattle.newick_text.specs.Tree.{Tree, leaf, node, Row, none, some}
 use Rattle.newick_text.specs.Table.{pickTree, pickRow, rowFrom, treeBelow, treeOf, childrenOf}
 
@@ -70,3 +72,30 @@ module _ (p : List ℕ) (name long : ℕ → List ℕ) (n : ℕ) where
     where
       same : v ≡ v - 0
       same = omega arith
+
+-- ---- a tree takes the names of its strains and the lengths of its edges, and nothing else of the two
+module _ (p : List ℕ) (name other long longer : ℕ → List ℕ) (n K : ℕ) (named : (i : ℕ) → i < n → name i ≡ other i) (measured : (i : ℕ) → i < K → long i ≡ longer i) where
+  row-cong : (v : ℕ) (T U : ℕ → Tree) (j w : ℕ) → w + j ≤ K → ((u : ℕ) → u < w + j → T u ≡ U u) → rowFrom p long v T w j ≡ rowFrom p longer v U w j
+  unfolding rowFrom
+  row-cong v T U zero w k h = refl
+  row-cong v T U (suc j) w k h =
+      let rest = row-cong v T U j (suc w) (omega arith) (λ u l. h u (omega arith)) in
+      let tree = h w (omega arith) in
+      let edge = measured w (omega arith) in
+      ap₂ (pickRow (eqb (getD p w 0) v)) (cc) rest
+
+  tree-cong : (b v : ℕ) → v < b → v ≤ K → treeOf p name long n v ≡ treeOf p other longer n v
+  unfolding childrenOf
+  tree-cong zero v l k = absurd (omega arith)
+  tree-cong (suc b) v l k =
+      let inner : (u : ℕ) → u < 0 + v → treeOf p name long n u ≡ treeOf p other longer n u = λ u m. tree-cong b u (omega arith) (omega arith) in
+      by-cases (decLt v n)
+      (λ h. leaf-is p name long n v h ∙ ap leaf (named v h) ∙ sym (leaf-is p other longer n v h))
+      (λ h. node-is p name long n v (omega arith) ∙ ap node (row-cong v (treeOf p name long n) (treeOf p other longer n) v 0 (omega arith) inner) ∙ sym (node-is p other longer n v (omega arith)))
+
+  pub children-cong : childrenOf p name long n K ≡ childrenOf p other longer n K
+  unfolding childrenOf
+  children-cong = row-cong K (treeOf p name long n) (treeOf p other longer n) K 0 (omega arith) (λ u m. tree-cong (suc u) u (omega arith) (omega arith))
+
+  pub root-cong : treeOf p name long n K ≡ treeOf p other longer n K
+  root-cong = tree-cong (suc K) K (omega arith) (omega arith)
