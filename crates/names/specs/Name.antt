@@ -6,9 +6,8 @@ use lib.Dec.{eqb, leb}
 use lib.ListN.{length}
 use Rattle.digits.specs.Digits.{run, isDigit}
 
--- the most bytes of a name
-abbrev pub maxName : ℕ
-maxName = 10
+-- the most bytes of a name stand with the records that have room for them
+pub use Rattle.records.specs.Names.{maxName}
 
 -- a letter
 abbrev pub isLetter : ℕ → Bool
