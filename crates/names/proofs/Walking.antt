@@ -18,8 +18,8 @@ use Rattle.names.specs.Name.{isName}
 use Rattle.names.specs.Record.{nameOf, nameOut, namesOut, placeOf}
 
 -- name i, one of n, ends before the last does
-name-below : (s : List ℕ) (from n i : ℕ) → i < n → nameStart s from i + 1 + getD s (nameStart s from i) 0 ≤ nameStart s from n
-name-below s from n i h = by-cases (ℕ-discrete (suc i) n)
+pub name-ends : (s : List ℕ) (from n i : ℕ) → i < n → nameStart s from i + 1 + getD s (nameStart s from i) 0 ≤ nameStart s from n
+name-ends s from n i h = by-cases (ℕ-discrete (suc i) n)
     (λ e. omega (arith, name-next s from i, ap (nameStart s from) e))
     (λ e. omega (arith, name-next s from i, names-rise s from (suc i) n (omega arith)))
 
@@ -39,7 +39,7 @@ module _ (s : List ℕ) (from n : ℕ) where
     }
 
     pub at-within : nameStart s from n ≤ length s → i < n → at + 1 + getD s at 0 ≤ length s
-    at-within l h = omega (arith, ap (λ (a : ℕ). a + 1 + getD s a 0) (w .place), name-below s from n i h)
+    at-within l h = omega (arith, ap (λ (a : ℕ). a + 1 + getD s a 0) (w .place), name-ends s from n i h)
 
 pub name-within : (s : List ℕ) (from i at : ℕ) → at ≡ nameStart s from i → nameStart s from (i + 1) ≤ length s → at + 1 + getD s at 0 ≤ length s
 name-within s from i at e h = omega (arith, ap (λ (a : ℕ). a + 1 + getD s a 0) e, name-next s from i, ap (nameStart s from) (add-one i))
