@@ -5,7 +5,6 @@ use Prim.Native.Nat.{ℕ}
 use lib.Dec.{eqb, leb}
 use lib.ListN.{length}
 use Rattle.digits.specs.Digits.{run, isDigit}
-
 -- the most bytes of a name stand with the records that have room for them
 pub use Rattle.records.specs.Names.{maxName}
 

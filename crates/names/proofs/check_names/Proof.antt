@@ -1,59 +1,69 @@
+-- The record, then what stands behind it, then its names.
+use mathlib.Core.Path.{_≡_, refl, sym, ap, _∙_}
+use mathlib.Core.List.{List}
+use Prim.Native.Nat.{ℕ}
+use native.Mathlib.Omega.{arith}
+use Rattle.verdict.specs.Answer.{pass, answerOf}
+use Rattle.records.specs.Names.{nameStart}
+use Rattle.records.specs.Form.{namesKind, endAt, recordTests}
+use Rattle.names.specs.Record.{namesOut, recordCount}
+use Rattle.names.proofs.Lent.{record-whole, ends-with, record-refused, bytes-left, names-refused, names-stand}
 use borrow.Author.Needs.{needs}
 use Rattle.names.proofs.check_names.Statement.{statement}
 use Rattle.names.proofs.check_names.Tie as tie
-use Rattle.names.proofs.check_names.Reads as reads
-use Rattle.names.proofs.check_names.Lts as lts
-use Rattle.names.proofs.names_out.Reads as names-out-reads
-use Rattle.names.proofs.refused.Reads as refused-reads
-use Rattle.records.proofs.names_at.Reads as names-at-reads
-use Rattle.records.proofs.one_record.Reads as one-record-reads
 
--- src/lib.rt:166:9
+abbrev bytes : tie.After-enum-told → List ℕ
+bytes c = c .before .before .before .before .args .s .now
+
+passed : (c : tie.After-enum-told) → recordTests (bytes c) 0 namesKind ≡ pass
+passed c = sym (c .before .before .one-record .ensures) ∙ ap answerOf (c .enum-told .given .1)
+
+-- the walk ends where the record does
+ended : (c : tie.After-names-at) → c .names-at .result .end ≡ endAt (bytes (c .before)) 0
+ended c = c .names-at .ensures .1 ∙ ends-with (bytes (c .before)) (passed (c .before))
+
+-- what is asked of the names
+told : (c : tie.After-names-out) → let walk = c .before .before .before in c .names-out .result ≡ namesOut (bytes (walk .before)) 6 (recordCount (bytes (walk .before)))
+told c = let walk = c .before .before .before in c .names-out .ensures ∙ ap (namesOut (bytes (walk .before)) 6) (walk .names-at .ensures .0)
+
 one-record-requires : tie.Need-one-record-requires
 one-record-requires c κs = search needs
 
--- src/lib.rt:167:29
 enum-known-of-record : tie.Need-enum-known-of-record
 enum-known-of-record c = search needs
 
--- src/lib.rt:168:9
 refused-requires : tie.Need-refused-requires
 refused-requires c κs = search needs
 
--- src/lib.rt:168:9
 returns : tie.Need-returns
-returns c = ?
+returns c = record-refused _ _ _ _ (c .before .before .before .before .one-record .ensures) (c .before .before .of-record .given .1) (c .refused .ensures)
 
 enum-told : tie.Need-enum-told
 enum-told c = search needs
 
--- src/lib.rt:170:9
 names-at-requires : tie.Need-names-at-requires
-names-at-requires c κs = ?
+names-at-requires c κs = record-whole (bytes c) (passed c)
 
--- src/lib.rt:172:9
 refused-requires-2 : tie.Need-refused-requires-2
 refused-requires-2 c κs = search needs
 
--- src/lib.rt:172:9
 returns-2 : tie.Need-returns-2
-returns-2 c = ?
+returns-2 c = let walk = c .before .before .before in bytes-left _ _ (passed (walk .before)) _ (ended walk) (c .before .if1 .taken) (c .refused2 .ensures)
 
--- src/lib.rt:177:8
 names-out-requires : tie.Need-names-out-requires
-names-out-requires c κs = ?
+names-out-requires c κs = let walk = c .before .before in let s = bytes (walk .before) in
+    omega (arith, ap (nameStart s 6) (walk .names-at .ensures .0), ends-with s (passed (walk .before)), record-whole s (passed (walk .before)))
 
--- src/lib.rt:178:9
 refused-requires-3 : tie.Need-refused-requires-3
 refused-requires-3 c κs = search needs
 
--- src/lib.rt:178:9
 returns-3 : tie.Need-returns-3
-returns-3 c = ?
+returns-3 c = let asked = c .before .before in let walk = asked .before .before .before in
+    names-refused _ _ (passed (walk .before)) _ (ended walk) (asked .before .if1 .left) (sym (told asked) ∙ c .before .if2 .taken) (c .refused3 .ensures)
 
--- src/lib.rt:163:1
 returns-4 : tie.Need-returns-4
-returns-4 c = ?
+returns-4 c = let asked = c .before in let walk = asked .before .before .before in
+    names-stand _ _ (passed (walk .before)) _ (ended walk) (asked .before .if1 .left) (sym (told asked) ∙ c .if2 .left) refl (walk .names-at .ensures .0)
 
 pub check-names-spec : {M : Type 1} → statement M
 check-names-spec =

@@ -1,70 +1,80 @@
+-- Name after name is compared, and none before the one at hand was the same.
+use mathlib.Core.Path.{_≡_, sym, ap, _∙_}
+use mathlib.Core.Bool.{false}
+use mathlib.Core.List.{List}
+use Prim.Native.Nat.{ℕ, _+_, _-_, _≤_, _<_}
+use native.Mathlib.Omega.{arith}
+use borrow.Author.Count.{below-none, below-more}
+use borrow.Author.Needs.{needs}
+use lib.ListN.{length, getD}
+use Rattle.digits.specs.Digits.{same}
+use Rattle.names.specs.Record.{nameOf}
+use Rattle.names.proofs.Walking.{At, at-first, at-next, at-within, lent-is, place-found, place-none}
 use Rattle.names.proofs.strain_of.Statement.{statement}
 use Rattle.names.proofs.strain_of.Tie as tie
-use Rattle.names.proofs.strain_of.Reads as reads
-use Rattle.names.proofs.strain_of.Lts as lts
-use Rattle.digits.proofs.same.Reads as same-reads
 
 abbrev Inv-loop : tie.InvT-loop
-Inv-loop s from n name at₀ i₀ at i = ?
+Inv-loop s from n name at₀ i₀ at i = (At s from n at i) × ((k : ℕ) → k < i → same (nameOf s from k) name ≡ false)
 
 abbrev μ-loop : tie.MeasureT-loop
-μ-loop s from n name at₀ i₀ at i = ?
+μ-loop s from n name at₀ i₀ at i = n - i
 
--- src/lib.rt:89:5
+-- name i ends within the bytes
+room : (c : tie.In-loop Inv-loop μ-loop) → let l = c .before in let p = l .before .before .before in
+    l .loop .at + 1 + getD (p .args .s .now) (l .loop .at) 0 ≤ length (p .args .s .now)
+room c = let l = c .before in let p = l .before .before .before in
+    at-within (p .args .s .now) (p .args .from) (p .args .n) (l .loop .inv .0) (p .pre) (c .loop-test .taken)
+
+-- what was compared is name i
+told : (c : tie.After-same Inv-loop μ-loop) → let l = c .before .before .before .before in let p = l .before .before .before in
+    c .same .result ≡ same (nameOf (p .args .s .now) (p .args .from) (l .loop .i)) (p .args .name .now)
+told c = let l = c .before .before .before .before in let p = l .before .before .before in
+    c .same .ensures ∙ ap (λ (x : List ℕ). same x (p .args .name .now)) (lent-is (p .args .s .now) (p .args .from) (l .loop .i) (l .loop .at) (l .loop .inv .0 .place))
+
 loop-holds : tie.Need-loop-holds Inv-loop μ-loop
-loop-holds c = ?
+loop-holds c = let p = c .before .before in (at-first (p .args .s .now) (p .args .from) (p .args .n), below-none _)
 
--- src/lib.rt:90:21
 add-start : tie.Need-add-start Inv-loop μ-loop
-add-start c = ?
+add-start c = record { fits = omega (arith, room c) }
 
--- src/lib.rt:91:27
 shared-slice-read-end : tie.Need-shared-slice-read-end Inv-loop μ-loop
-shared-slice-read-end c = ?
+shared-slice-read-end c = omega (arith, room (c .before))
 
--- src/lib.rt:91:27
 cast-end : tie.Need-cast-end Inv-loop μ-loop
-cast-end c = ?
+cast-end c = record { fits = omega (arith, c .shared-slice-known3 .given (c .before .before .loop .at)) }
 
--- src/lib.rt:91:19
 add-end : tie.Need-add-end Inv-loop μ-loop
-add-end c = ?
+add-end c = record { fits = omega (arith, room (c .before)) }
 
--- src/lib.rt:92:25
 sub-same : tie.Need-sub-same Inv-loop μ-loop
-sub-same c = ?
+sub-same c = omega arith
 
--- src/lib.rt:92:25
 part-same-start : tie.Need-part-same-start Inv-loop μ-loop
-part-same-start c = ?
+part-same-start c = omega arith
 
--- src/lib.rt:92:25
 part-same-end : tie.Need-part-same-end Inv-loop μ-loop
-part-same-end c = ?
+part-same-end c = room (c .before)
 
--- src/lib.rt:92:12
 same-requires : tie.Need-same-requires Inv-loop μ-loop
-same-requires c κs = ?
+same-requires c κs = search needs
 
--- src/lib.rt:93:13
 returns : tie.Need-returns Inv-loop μ-loop
-returns c = ?
+returns c = let l = c .before .before .before .before .before in let p = l .before .before .before in
+    place-found (p .args .s .now) (p .args .from) (p .args .n) (p .args .name .now) (l .loop .i) (c .before .before .before .before .loop-test .taken) (sym (told (c .before)) ∙ c .if1 .taken) (l .loop .inv .1)
 
--- src/lib.rt:96:9
 add-i : tie.Need-add-i Inv-loop μ-loop
-add-i c = ?
+add-i c = search needs
 
--- src/lib.rt:89:5
 loop-less : tie.Need-loop-less Inv-loop μ-loop
-loop-less c = ?
+loop-less c = omega arith
 
--- src/lib.rt:89:5
 loop-again : tie.Need-loop-again Inv-loop μ-loop
-loop-again c = ?
+loop-again c = let l = c .before .before .before .before .before in let p = l .before .before .before in
+    (at-next (p .args .s .now) (p .args .from) (p .args .n) (l .loop .inv .0) (c .before .before .before .before .loop-test .taken), below-more _ _ (l .loop .inv .1) (sym (told (c .before)) ∙ c .if1 .left))
 
--- src/lib.rt:83:1
 returns-2 : tie.Need-returns-2 Inv-loop μ-loop
-returns-2 c = ?
+returns-2 c = let p = c .before .before .before .before in
+    place-none (p .args .s .now) (p .args .from) (p .args .n) (p .args .name .now) (λ k h. c .before .loop .inv .1 k (omega (arith, c .before .loop .inv .0 .few)))
 
 pub strain-of-spec : {M : Type 1} → statement M
 strain-of-spec =
