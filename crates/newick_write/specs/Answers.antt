@@ -1,13 +1,14 @@
 -- The call without a fit (RULES, Trees in text): names, a tree and thousandths, and the text that they are.
 use mathlib.Core.Path.{_≡_}
-use mathlib.Core.Bool.{false, not}
+use mathlib.Core.Bool.{false, cond, not}
 use mathlib.Core.List.{List}
-use Prim.Native.Nat.{ℕ, _≤_}
-use lib.Dec.{eqb}
+use Prim.Native.Nat.{ℕ, _+_, _≤_}
+use lib.Dec.{eqb, ltb}
 use lib.IntN.{ℤ}
 use lib.ListN.{length}
 use Rattle.exact.specs.Table.{entryOf}
 use Rattle.verdict.specs.Answer.{Answer, pass, number, answerOf, test, _orElse_}
+use Rattle.matrix.specs.Limits.{maxStrains}
 use Rattle.tree_theory.specs.Tests.{treeTests}
 use Rattle.lengths.specs.Tests.{lengthsTests}
 use Rattle.records.specs.Names.{nameStart}
@@ -45,6 +46,10 @@ roomOut room = test 15 (not (eqb room maxText))
 abbrev pub writeTests : List ℕ → List ℕ → List ℤ → ℕ → Answer
 writeTests names ps ms room =
     namesTests names orElse treeTests (recordCount names) ps orElse lengthsTests (length ps) thousand ms orElse roomOut room
+
+-- a count of strains up to one more than the most
+abbrev pub strainsCut : ℕ → ℕ
+strainsCut count = cond (ltb maxStrains count) (maxStrains + 1) count
 
 -- the answer, and where it passes the count of the names
 pub record Judged (names ps : List ℕ) (ms : List ℤ) (room : ℕ) (r : Named) : Type 0 where

@@ -1,5 +1,6 @@
 // Trees written as Newick text without a fit: names, a table of parents and thousandths are judged first, the front of the lent buffer is
 // filled after. Nothing behind the text changes, and a refusal changes nothing.
+use matrix::Matrix;
 use names::Named;
 use records::Layout;
 use verdict::Reason;
@@ -8,7 +9,7 @@ use verdict::Verdict;
 ghost use mathlib.Core.Path.{_≡_};
 ghost use lib.ListN.{length};
 ghost use Rattle.writing.specs.Text.{Wrote};
-ghost use Rattle.newick_write.specs.Answers.{treeText, Tellable, Judged, WriteAnswer, NumberAnswer};
+ghost use Rattle.newick_write.specs.Answers.{treeText, strainsCut, Tellable, Judged, WriteAnswer, NumberAnswer};
 
 // The bytes of a text at most, and of a buffer for one.
 pub const MAX_TEXT: usize = 65_536;
@@ -48,6 +49,16 @@ fn unjudged(refusal: Refusal) -> Named
     }
 }
 
+// A count of strains in 32 bits: one more than the most for every larger one, which the tests of a tree refuse alike.
+fn strains(count: usize) -> u32
+    ensures { λ r. ⌜ r ≡ strainsCut count ⌝ }
+{
+    if count > Matrix::MAX_STRAINS {
+        return Matrix::MAX_STRAINS as u32 + 1;
+    }
+    count as u32
+}
+
 // 2 to 5, 28, 6, 8 to 11, 13, 15, 16, the first that applies to names, a tree and thousandths, and to a buffer of so many bytes.
 fn check_matter(names: &[u8], parents: &[u8], thousandths: &[i64], room: usize) -> Named
     ensures { λ r. ⌜ Judged (now (names .entry)) (now (parents .entry)) (now (thousandths .entry)) room r ⌝ }
@@ -57,7 +68,7 @@ fn check_matter(names: &[u8], parents: &[u8], thousandths: &[i64], room: usize) 
     if let Verdict::Refused(refusal) = of_names {
         return unjudged(refusal);
     }
-    let planted = tree::check_tree(named.count as u32, parents);
+    let planted = tree::check_tree(strains(named.count), parents);
     let measured = lengths::check_lengths(parents.len(), THOUSAND, thousandths);
     let fits = refusing::test(Reason::Buffer, room != MAX_TEXT);
     let answer = verdict::or_else(planted, verdict::or_else(measured, fits));
@@ -81,7 +92,14 @@ pub fn write(names: &[u8], parents: &[u8], thousandths: &[i64], text: &mut [u8])
     }
     Written {
         verdict: Verdict::Accepted,
-        length: put_named(names, Layout::HEAD, judged.count, parents, thousandths, text),
+        length: put_named(
+            names,
+            Layout::HEAD,
+            judged.count,
+            parents,
+            thousandths,
+            text,
+        ),
     }
 }
 
