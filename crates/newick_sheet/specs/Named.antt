@@ -2,16 +2,16 @@
 use mathlib.Core.Path.{_≡_}
 use mathlib.Core.Bool.{Bool}
 use mathlib.Core.List.{List}
-use Prim.Native.Nat.{ℕ}
-use lib.IntN.{ℤ, pos}
-use lib.ListN.{length}
+use Prim.Native.Nat.{ℕ, _-_, _≤_}
+use lib.IntN.{ℤ}
+use lib.ListN.{length, take, drop}
 use Rattle.exact.specs.Table.{table}
 use Rattle.verdict.specs.Answer.{Answer, pass, answerOf, test, _orElse_}
 use Rattle.verdict.specs.declared.Rule.the-variants.{Plain}
-use Rattle.tree_theory.specs.EdgeTable.{EdgeTable}
+use Rattle.tree_theory.specs.Tests.{treeTests}
 use Rattle.fit_theory.specs.Quantities.{roundedOf}
 use Rattle.records.specs.Form.{bodyAt, startOf, formTests}
-use Rattle.reading.specs.Holds.{strainsOf, parentsAt, parentsOf, denominatorOf, numeratorsOf}
+use Rattle.reading.specs.Holds.{strainsOf, parentsOf, denominatorOf, numeratorsOf}
 use Rattle.reading.specs.Tests.{heldTests}
 use Rattle.names.specs.Record.{namesOut}
 use Rattle.names.specs.declared.Named.{Named}
@@ -52,13 +52,16 @@ pub record Labelled (s : List ℕ) (r : Named) : Type 0 where
   pub answer : answerOf (r .verdict) ≡ labelTests s
   pub from : labelTests s ≡ pass → r .count ≡ namesFrom s
 
--- the fit: the answer, and where it passes the strains, where the parents start and end, the edges and their thousandths, then zeros
+-- the fit: the answer, and where it passes the strains, where the parents stand among the bytes, the edges and their thousandths
 pub record Fitted (s : List ℕ) (r : Fitting) : Type 0 where
+  pub allowed : treeTests (strainsOf s) (parentsOf s) ≡ pass
   pub strains : r .strains ≡ strainsOf s
-  pub parents : r .parents ≡ parentsAt s
-  pub end : r .end ≡ startOf s 2
-  pub edges : r .edges ≡ length (parentsOf s)
-  pub lengths : EdgeTable (length (parentsOf s)) (roundedOf (denominatorOf s) (numeratorsOf s)) (r .lengths)
+  pub starts : r .parents ≤ r .end
+  pub ends : r .end ≤ length s
+  pub parents : take (r .end - r .parents) (drop (r .parents) s) ≡ parentsOf s
+  pub room : r .edges ≤ length (r .lengths)
+  pub size : r .edges ≡ length (take (r .edges) (r .lengths))
+  pub lengths : take (r .edges) (r .lengths) ≡ thousandthsOf s
 
 pub record FittingAnswer (s : List ℕ) (r : Fitting) : Type 0 where
   pub answer : answerOf (r .verdict) ≡ heldTests Plain s

@@ -76,7 +76,7 @@ fn unfitted(refusal: Refusal) -> Fitting
 }
 
 // What the first three records of a sheet of the form hold: 6 to 14, 16, 26; and the lengths rounded.
-fn fitting(s: &[u8]) -> Fitting
+fn fit_of(s: &[u8]) -> Fitting
     requires { ⌜ formTests 4 (now s) ≡ pass ⌝ }
     ensures { λ r. ⌜ FittingAnswer (now (s .entry)) r ⌝ }
 {
@@ -132,7 +132,7 @@ pub fn write_sheet(s: &[u8], text: &mut [u8]) -> Written
     if let Verdict::Refused(refusal) = of_names {
         return untold(refusal);
     }
-    let fit = fitting(s);
+    let fit = fit_of(s);
     let of_fit = fit.verdict;
     if let Verdict::Refused(refusal) = of_fit {
         return untold(refusal);
