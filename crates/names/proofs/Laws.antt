@@ -2,7 +2,7 @@
 -- (`names-formed`), no two alike (`names-apart`), and each strain is found by its own (`place-of`); a strain that is found has the name
 -- (`place-has`). The names of a lent record that passes lie within it (`lent-within`); a strain below `n` has its bytes there (`name-size`).
 use mathlib.Core.Path.{_≡_, refl, sym, ap, _∙_}
-use mathlib.Core.Bool.{Bool, true, false, cond, not, _&&_, _||_, true≢false}
+use mathlib.Core.Bool.{Bool, true, false, cond, not, _&&_, true≢false}
 use mathlib.Core.List.{List, [], _∷_}
 use Prim.Native.Nat.{ℕ, zero, suc, _+_, _<_, _≤_}
 use native.Mathlib.Decide.{decLt}
