@@ -1,13 +1,14 @@
 -- What names tell the rooms above. A name has 1 to 10 bytes, each a name byte (`name-long`, `name-bytes`). Names that pass 28 are names
 -- (`names-formed`), no two alike (`names-apart`), and each strain is found by its own (`place-of`); a strain that is found has the name
--- (`place-has`). The names of a lent record that passes lie within it (`lent-within`); a strain below `n` has its bytes there (`name-size`).
+-- (`place-has`), and where none is found none has it (`place-missing`). The names of a lent record that passes lie within it (`lent-within`),
+-- those of a sheet with names within the sheet (`sheet-within`); a strain below `n` has its bytes there (`name-size`).
 use mathlib.Core.Path.{_≡_, refl, sym, ap, _∙_}
-use mathlib.Core.Bool.{Bool, true, false, cond, not, _&&_, _||_, true≢false}
+use mathlib.Core.Bool.{Bool, true, false, cond, not, _&&_, true≢false}
 use mathlib.Core.List.{List, [], _∷_}
 use Prim.Native.Nat.{ℕ, zero, suc, _+_, _<_, _≤_}
 use native.Mathlib.Decide.{decLt}
 use native.Mathlib.Omega.{arith}
-use borrow.Author.Tests.{lt-ltb, leb-true, eqb-true, not-false}
+use borrow.Author.Tests.{lt-ltb, le-ltb, leb-true, eqb-true, not-false}
 use lib.Dec.{eqb, ltb, leb}
 use lib.ListN.{length, getD, drop, length-drop}
 use lib.Seq.{length-take-le}
@@ -15,19 +16,22 @@ use Rattle.exact.proofs.Decide.{by-cases}
 use Rattle.verdict.specs.Answer.{pass, test, testAt, _orElse_}
 use Rattle.verdict.specs.declared.Place.the-variants.{Byte}
 use Rattle.verdict.specs.Table.{some, first}
-use Rattle.verdict.proofs.Table.{some-none, some-first, first-is, lowest}
+use Rattle.verdict.proofs.Table.{some-none, some-first, first-none, first-past, first-is, lowest}
 use Rattle.verdict.proofs.Answers.{or-none, orElse-pass, test-pass}
 use Rattle.digits.specs.Digits.{run, same}
 use Rattle.digits.proofs.Reading.{both-true}
 use Rattle.digits.proofs.Comparing.{same-self, same-list}
 use Rattle.records.specs.Names.{maxName, nameStart}
-use Rattle.records.specs.Form.{headSize, namesKind, endAt, recordTests}
+use Rattle.endian.specs.Bytes.{number}
+use Rattle.records.specs.Form.{headSize, namesKind, bodyAt, endAt, recordTests, startOf, formTests}
+use Rattle.records.proofs.Formed.{form-ends, names-many, names-end}
 use Rattle.names.specs.Name.{isNameByte, isName}
 use Rattle.names.specs.Record.{nameOf, nameOut, namesOut, placeOf, recordCount, namesTests}
 use Rattle.names.proofs.Walking.{name-ends}
 use Rattle.names.proofs.Lent.{record-whole, ends-with}
 pub use Rattle.records.proofs.Names.{name-first, name-next, names-rise, names-far, count-ends}
 pub use Rattle.names.proofs.Settled.{one-named}
+pub use Rattle.names.proofs.Walking.{lent-is}
 
 -- ---- one name
 -- a run that is as long as the text is of every byte
@@ -64,6 +68,12 @@ module _ (s : List ℕ) (from n : ℕ) (w : nameStart s from n ≤ length s) whe
   name-size i h = let end = name-ends s from n i h in
       length-take-le (getD s (nameStart s from i) 0) (drop (nameStart s from i + 1) s) (simp length-drop (omega (arith, end)))
 
+-- the names of a sheet with names lie within it
+pub sheet-within : (s : List ℕ) → formTests 4 s ≡ pass → nameStart s (bodyAt (startOf s 3)) (number 2 s (bodyAt 0)) ≤ length s
+sheet-within s z =
+    let l : 3 < 4 = omega arith in
+    omega (arith, ap (nameStart s (bodyAt (startOf s 3))) (names-many 4 s z l), names-end 4 s z l, form-ends 4 s z)
+
 -- ---- names that pass 28
 module _ (s : List ℕ) (from n : ℕ) (z : namesOut s from n ≡ false) where
   each : (i : ℕ) → i < n → (not (isName (nameOf s from i)) ≡ false) × (some i (λ j. same (nameOf s from j) (nameOf s from i)) ≡ false)
@@ -88,6 +98,19 @@ module _ (s : List ℕ) (from n : ℕ) (z : namesOut s from n ≡ false) where
   pub place-of : (i : ℕ) → i < n → placeOf s from n (nameOf s from i) ≡ i
   unfolding placeOf
   place-of i h = first-is n (λ j. same (nameOf s from j) (nameOf s from i)) i h (same-self (nameOf s from i)) (λ j l. names-new i j h l)
+
+-- every text has a place, n where no strain has it
+pub place-most : (s : List ℕ) (from n : ℕ) (l : List ℕ) → placeOf s from n l ≤ n
+unfolding placeOf
+place-most s from n l = by-cases (decLt n (first n (λ i. same (nameOf s from i) l)))
+    (λ h. let none = some-first n (λ i. same (nameOf s from i) l) ∙ le-ltb (first n (λ i. same (nameOf s from i) l)) n (omega arith) in
+    omega (arith, first-none n (λ i. same (nameOf s from i) l) none))
+    (λ h. omega arith)
+
+pub place-missing : (s : List ℕ) (from n : ℕ) (l : List ℕ) → n ≤ placeOf s from n l → (i : ℕ) → i < n → nameOf s from i ≡ l → ⊥
+unfolding placeOf
+place-missing s from n l h i g e =
+    true≢false (sym (same-self l) ∙ ap (λ (x : List ℕ). same x l) (sym e) ∙ first-past n (λ j. same (nameOf s from j) l) h i g)
 
 -- a strain that is found has the name
 pub place-has : (s : List ℕ) (from n : ℕ) (l : List ℕ) → placeOf s from n l < n → nameOf s from (placeOf s from n l) ≡ l

@@ -1,8 +1,8 @@
 -- The answer to a names record that is lent by itself, by the answer to each of its tests.
-use mathlib.Core.Path.{_≡_, refl, sym, ap, ap₂, _∙_}
+use mathlib.Core.Path.{_≡_, sym, ap, ap₂, _∙_}
 use mathlib.Core.Bool.{Bool, true, false}
 use mathlib.Core.List.{List}
-use Prim.Native.Nat.{ℕ, _+_, _<_, _≤_}
+use Prim.Native.Nat.{ℕ, _<_, _≤_}
 use native.Mathlib.Omega.{arith}
 use borrow.Author.Tests.{lt-ltb, le-ltb, eqb-true, not-false}
 use lib.Dec.{eqb, ltb}
@@ -15,7 +15,7 @@ use Rattle.verdict.specs.declared.Verdict.the-variants.{Accepted, Refused}
 use Rattle.verdict.specs.Answer.{Answer, pass, answerOf, refusalOf, test, testAt, _orElse_}
 use Rattle.verdict.proofs.Answers.{not-pass, refused-row}
 use Rattle.records.specs.Names.{nameStart}
-use Rattle.records.specs.Form.{headSize, namesKind, endAt, namesAt, recordTests}
+use Rattle.records.specs.Form.{headSize, namesKind, endAt, recordTests}
 use Rattle.records.proofs.InTurn.{record-there, record-counted}
 use Rattle.names.specs.declared.Named.{Named}
 use Rattle.names.specs.Record.{namesOut, recordCount, namesTests, NamesAnswer}

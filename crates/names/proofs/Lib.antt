@@ -2,3 +2,4 @@ pub mod Walking
 pub mod Lent
 pub mod Settled
 pub mod Laws
+pub mod Worked

@@ -1,5 +1,5 @@
 -- A walk over n names that lie within the bytes: name i begins at `at`, and the part that is lent of it is that name (`lent-is`).
-use mathlib.Core.Path.{_≡_, refl, sym, ap, ap₂, _∙_}
+use mathlib.Core.Path.{_≡_, sym, ap, _∙_}
 use mathlib.Core.Bool.{Bool, true, false, not, _||_}
 use mathlib.Core.List.{List}
 use Prim.Native.Nat.{ℕ, suc, _+_, _-_, _<_, _≤_}
@@ -13,7 +13,7 @@ use Rattle.verdict.specs.Table.{some, first}
 use Rattle.verdict.proofs.Table.{some-yes, some-no, some-first, first-is, past-first}
 use Rattle.digits.specs.Digits.{same}
 use Rattle.records.specs.Names.{nameStart}
-use Rattle.records.proofs.Names.{name-first, name-next, names-rise, names-far}
+use Rattle.records.proofs.Names.{name-first, name-next, names-rise}
 use Rattle.names.specs.Name.{isName}
 use Rattle.names.specs.Record.{nameOf, nameOut, namesOut, placeOf}
 

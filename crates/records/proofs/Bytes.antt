@@ -1,6 +1,6 @@
 -- Where a refusal of the form points (RULES, Places): 2, 3 and 4 at the start of the first record that does not pass, 5 at the byte behind the
 -- last record, 1 nowhere (`byte-placed`). It is a byte of the sheet, or the one behind its last (`byte-within`).
-use mathlib.Core.Path.{_≡_, refl, sym, _∙_, ap, subst, subst⁻¹}
+use mathlib.Core.Path.{_≡_, refl, sym, _∙_, ap, subst⁻¹}
 use mathlib.Core.Bool.{Bool, true, false, cond, not, _&&_, true≢false}
 use mathlib.Core.List.{List}
 use Prim.Native.Nat.{ℕ, zero, suc, _≤_, _<_}

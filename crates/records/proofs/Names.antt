@@ -1,18 +1,19 @@
 -- Names one behind the other: each begins behind the one before it, so those that begin before a place are the first of them (`walked`).
 use mathlib.Core.Path.{_≡_, refl, sym, ap, _∙_}
-use mathlib.Core.Bool.{Bool, true, false, cond}
+use mathlib.Core.Bool.{Bool, true, false}
 use mathlib.Core.List.{List}
 use Prim.Native.Nat.{ℕ, zero, suc, _+_, _-_, _<_, _≤_}
-use native.Mathlib.Decide.{ℕ-discrete, decLt}
+use native.Mathlib.Decide.{ℕ-discrete}
 use native.Mathlib.Numerals.{add-one}
 use native.Mathlib.Omega.{arith}
 use borrow.Author.Tests.{lt-ltb, le-ltb}
 use lib.Dec.{ltb}
-use lib.ListN.{length, getD}
+use lib.ListN.{getD}
 use Rattle.exact.proofs.Decide.{by-cases}
 use Rattle.verdict.specs.Table.{count}
 use Rattle.verdict.proofs.Table.{count-zero, count-suc}
 use Rattle.records.specs.Names.{nameStart, nameCount}
+use Rattle.records.specs.Form.{sizeAt, bodyAt, namesAt}
 
 -- of tests that apply below n and nowhere from there on, n apply
 count-front : (m n : ℕ) (p : ℕ → Bool) → n ≤ m → ((i : ℕ) → i < n → p i ≡ true) → ((i : ℕ) → n ≤ i → i < m → p i ≡ false) → count m p ≡ n
@@ -81,3 +82,9 @@ module _ (s : List ℕ) (from to : ℕ) where
   pub walk-end : (at k : ℕ) → to ≤ at → Walking s from to at k → (k ≡ nameCount s from to) × (at ≡ nameStart s from (nameCount s from to))
   walk-end at k h w = let e = count-is s from to k (w .before) (omega (arith, w .place)) in
       (sym e, w .place ∙ ap (nameStart s from) (sym e))
+
+-- the names of the record that starts at `at`, by the length that was read of its body
+pub walked-at : (s : List ℕ) (at size k end : ℕ) → size ≡ sizeAt s at
+    → (k ≡ nameCount s (bodyAt at) (bodyAt at + size)) × (end ≡ nameStart s (bodyAt at) (nameCount s (bodyAt at) (bodyAt at + size)))
+    → (k ≡ namesAt s at) × (end ≡ nameStart s (bodyAt at) (namesAt s at))
+walked-at s at size k end e h = rw e at h

@@ -1,5 +1,5 @@
 -- The whole answer to a form: what the records in turn leave to the count of the names and to the bytes behind the last record.
-use mathlib.Core.Path.{_≡_, refl, sym, ap, ap₂, _∙_}
+use mathlib.Core.Path.{_≡_, sym, ap, _∙_}
 use mathlib.Core.Bool.{Bool, true, false, not, _&&_, true≢false}
 use mathlib.Core.List.{List}
 use Prim.Native.Nat.{ℕ, _+_, _<_, _≤_}
@@ -13,13 +13,12 @@ use Rattle.exact.proofs.Decide.{by-cases}
 use Rattle.verdict.specs.declared.Reason.the-variants.{SheetTooLong, WrongCounts, BytesLeft}
 use Rattle.verdict.specs.declared.Place.the-variants.{Nowhere, Byte}
 use Rattle.verdict.specs.declared.Refusal.{Refusal}
-use Rattle.verdict.specs.declared.Verdict.{Verdict}
-use Rattle.verdict.specs.declared.Verdict.the-variants.{Accepted, Refused}
-use Rattle.verdict.specs.Answer.{Answer, pass, fault, answerOf, refusalOf, testAt, _orElse_}
+use Rattle.verdict.specs.declared.Verdict.the-variants.{Refused}
+use Rattle.verdict.specs.Answer.{Answer, pass, fault, refusalOf, testAt, _orElse_}
 use Rattle.verdict.proofs.Answers.{or-none}
 use Rattle.endian.specs.Bytes.{number}
 use Rattle.records.specs.declared.Layout.{Layout}
-use Rattle.records.specs.Form.{maxRecords, longest, bodyAt, endAt, sizeAt, countsOut, countAt, bodyLength, noVertices, kindOf, namesAt, startOf, recordsTests, namesDiffer, formTests}
+use Rattle.records.specs.Form.{longest, bodyAt, endAt, sizeAt, countsOut, countAt, bodyLength, noVertices, kindOf, namesAt, startOf, recordsTests, namesDiffer, formTests}
 use Rattle.records.specs.Laid.{maxStarts, Laid, LayoutAnswer}
 use Rattle.records.proofs.Decoding.{padded-before}
 use Rattle.records.proofs.InTurn.{first-start, each-passes, record-there, record-counted, laid-refused}

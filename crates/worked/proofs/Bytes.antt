@@ -1,6 +1,6 @@
--- Sheet A, byte by byte: its form, what its records hold, and its answer, computed.
+-- Sheet A, byte by byte: its form, alone and with names, what its records hold, and its answer, computed.
 use mathlib.Core.Path.{_≡_, refl}
-use mathlib.Core.List.{List, [], _∷_}
+use mathlib.Core.List.{List, [], _∷_, _++_}
 use Prim.Native.Nat.{ℕ}
 use lib.IntN.{pos, negsuc}
 use lib.ListN.{length, take}
@@ -14,6 +14,7 @@ use Rattle.verdict.specs.declared.Rule.the-variants.{Plain}
 use Rattle.matrix.specs.Place.{place, known, pairAt, rowStart, rowPlace}
 use Rattle.tree_theory.specs.Chain.{lift, below, parts}
 use Rattle.endian.specs.Bytes.{number, twos}
+use Rattle.records.specs.Names.{nameStart, nameCount}
 use Rattle.records.specs.Form.{startOf, recordsTests, formTests}
 use Rattle.reading.specs.Holds.{strainsOf, distancesOf, treeStrainsOf, parentsOf, denominatorOf, numeratorsOf}
 use Rattle.reading.specs.Tests.{readTests, sheetTests}
@@ -77,6 +78,17 @@ bare-accepted = (refl, refl, refl)
 pub same-front : (distancesOf bareA ≡ distancesOf sheetA) × (parentsOf bareA ≡ parentsOf sheetA)
 unfolding tableFrom pairAt rowStart rowPlace number startOf
 same-front = (refl, refl)
+
+-- the fourth record of a sheet with names: `a`, `b`, `c`, `d`, or one fewer
+abbrev names : List ℕ
+names = 8 ∷ 0 ∷ 0 ∷ 0 ∷ 5 ∷ 0 ∷ 1 ∷ 97 ∷ 1 ∷ 98 ∷ 1 ∷ 99 ∷ 1 ∷ 100 ∷ []
+
+abbrev fewer : List ℕ
+fewer = 6 ∷ 0 ∷ 0 ∷ 0 ∷ 5 ∷ 0 ∷ 1 ∷ 97 ∷ 1 ∷ 98 ∷ 1 ∷ 99 ∷ []
+
+pub named : (formTests 4 (sheetA ++ names) ≡ pass) × (formTests 4 (sheetA ++ fewer) ≡ fault 4 (Byte 87)) × (formTests 4 sheetA ≡ fault 2 (Byte 87)) × (formTests 3 (sheetA ++ names) ≡ fault 5 (Byte 87))
+unfolding number startOf recordsTests nameStart nameCount count
+named = (refl, refl, refl, refl)
 
 -- eight bytes of a number below zero
 pub below-zero : twos (number 8 (253 ∷ 255 ∷ 255 ∷ 255 ∷ 255 ∷ 255 ∷ 255 ∷ 255 ∷ []) 0) ≡ negsuc 2

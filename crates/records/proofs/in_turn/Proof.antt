@@ -2,7 +2,7 @@
 use mathlib.Core.Path.{_≡_, refl, sym, ap, ap₂, _∙_}
 use lib.ListN.{length}
 use Rattle.verdict.specs.Answer.{pass, answerOf}
-use Rattle.records.specs.Form.{endAt, recordTests, recordsTests}
+use Rattle.records.specs.Form.{endAt, recordTests}
 use native.Mathlib.Omega.{arith}
 use Prim.Native.Nat.{_+_, _-_, _≤_}
 use borrow.Author.Needs.{needs}

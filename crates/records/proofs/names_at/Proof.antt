@@ -1,7 +1,5 @@
 -- The body lies where the head says.
-use mathlib.Core.Path.{_≡_, ap, _∙_}
-use Prim.Native.Nat.{ℕ, _+_}
-use Rattle.records.specs.Names.{nameStart, nameCount}
+use Rattle.records.proofs.Names.{walked-at}
 use borrow.Author.Needs.{needs}
 use Rattle.records.proofs.names_at.Statement.{statement}
 use Rattle.records.proofs.names_at.Tie as tie
@@ -23,9 +21,7 @@ names-in-requires c κs = search needs
 
 returns : tie.Need-returns
 returns c = let a = c .before .before .before .args in
-    let s = a .s .now in
-    let e = ap (λ (n : ℕ). nameCount s (a .at + 6) (a .at + 6 + n)) (c .before .u32-at .ensures) in
-    (c .names-in .ensures .0 ∙ e, c .names-in .ensures .1 ∙ ap (nameStart s (a .at + 6)) e)
+    walked-at (a .s .now) (a .at) (c .before .u32-at .result) (c .names-in .result .count) (c .names-in .result .end) (c .before .u32-at .ensures) (c .names-in .ensures)
 
 pub names-at-spec : {M : Type 1} → statement M
 names-at-spec =

@@ -1,5 +1,5 @@
 -- `Walking` is what each turn keeps: a name more, and the next place behind it.
-use Prim.Native.Nat.{_-_, _≤_}
+use Prim.Native.Nat.{_-_}
 use native.Mathlib.Omega.{arith}
 use borrow.Author.Needs.{needs}
 use Rattle.records.proofs.Names.{Walking, names-far, walk-start, walk-turn, walk-end}
