@@ -49,7 +49,7 @@ module _ (rule : Rule) (s : List ℕ) (x : SheetFit) (a : SheetReport rule s x) 
 
   -- so what is written is the print of the sheet
   pub shows-sheet : (before after : List ℕ) (next : ℕ) → pageSize ≤ length before → Wrote before after 0 (reportText rule x) next → Shown (sheetText rule s) before after next
-  shows-sheet before after next h w = whole-page (sheetText rule s) before after next
+  shows-sheet before after next h w = whole-page pageSize (sheetText rule s) before after next
       (fits-page (sheetTests rule s) (fitOfSheet rule s) (λ z. text-length _ _ (length (parentsOf s)) _ _ _ _ _ _ _ _ (edges-few z)))
       h (subst (λ (t : List ℕ). Wrote before after 0 t next) shown-is w)
 

@@ -15,7 +15,7 @@ use Rattle.writing.proofs.Writing.{wrote-length}
 use Rattle.lines.specs.Page.{pageSize}
 use Rattle.lines.proofs.Sizes.{refused-length}
 use Rattle.answer_lines.specs.Texts.{byAnswer}
-use Rattle.pages.specs.Texts.{Shown}
+use Rattle.pages.specs.Texts.{ShownOn}
 
 -- ---- by the answer
 same-fit : (a : Answer) (own fit : List ℕ) → (a ≡ pass → own ≡ fit) → byAnswer a own ≡ byAnswer a fit
@@ -30,20 +30,20 @@ pub fits-page : (a : Answer) (fit : List ℕ) → (a ≡ pass → length fit ≤
 fits-page pass fit h = h refl
 fits-page (fault k p) fit h = refused-length k p
 
--- ---- at the front of a buffer
-module _ (t before after : List ℕ) (next : ℕ) where
-  pub whole-page : length t ≤ pageSize → pageSize ≤ length before → Wrote before after 0 t next → Shown t before after next
+-- ---- at the front of a buffer of so many bytes or more
+module _ (size : ℕ) (t before after : List ℕ) (next : ℕ) where
+  pub whole-page : length t ≤ size → size ≤ length before → Wrote before after 0 t next → ShownOn size t before after next
   whole-page l h w = record {
     written = λ _. w;
     short = λ s. absurd (omega arith);
     within = omega (arith, w .place, wrote-length {b = before} {c = after} {at = 0} {m = next} {s = t} (omega arith) w);
   }
 
-pub small-page : (t before : List ℕ) → length before < pageSize → Shown t before before 0
-small-page t before h = record { written = λ l. absurd (omega arith); short = λ _. (refl, refl); within = omega arith }
+pub small-page : (size : ℕ) (t before : List ℕ) → length before < size → ShownOn size t before before 0
+small-page size t before h = record { written = λ l. absurd (omega arith); short = λ _. (refl, refl); within = omega arith }
 
 -- of any text: two lengths and two contents that meet the contract on the same buffer are equal
-pub one-shown : (t before after after′ : List ℕ) (next next′ : ℕ) → Shown t before after next → Shown t before after′ next′ → (next ≡ next′) × (after ≡ after′)
-one-shown t before after after′ next next′ p q = by-cases (decLt (length before) pageSize)
+pub one-shown : (size : ℕ) (t before after after′ : List ℕ) (next next′ : ℕ) → ShownOn size t before after next → ShownOn size t before after′ next′ → (next ≡ next′) × (after ≡ after′)
+one-shown size t before after after′ next next′ p q = by-cases (decLt (length before) size)
     (λ l. (p .short l .0 ∙ sym (q .short l .0), p .short l .1 ∙ sym (q .short l .1)))
     (λ l. settled (p .written (omega arith)) (q .written (omega arith)))

@@ -53,6 +53,6 @@ module _ (s : List ℕ) (x : UnfittedFit) (a : UnfittedAnswer s x) where
 
   -- so what is written is the print of the sheet
   pub shows-unfitted : (before after : List ℕ) (next : ℕ) → pageSize ≤ length before → Wrote before after 0 (directText x) next → Shown (unfittedText s) before after next
-  shows-unfitted before after next h w = whole-page (unfittedText s) before after next
+  shows-unfitted before after next h w = whole-page pageSize (unfittedText s) before after next
       (fits-page (unfittedTests s) (fitOfUnfitted s) (λ z. resolved-text-length _ (length (parentsOf s)) _ _ _ _ _ (fit z .few)))
       h (subst (λ (t : List ℕ). Wrote before after 0 t next) shown-is w)

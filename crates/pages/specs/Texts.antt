@@ -36,8 +36,12 @@ fitOfUnfitted s =
 abbrev pub unfittedText : List ℕ → List ℕ
 unfittedText s = byAnswer (unfittedTests s) (fitOfUnfitted s)
 
--- a text at the front of a buffer of a page or more; one that is smaller is left as it was
-pub record Shown (text before after : List ℕ) (next : ℕ) : Type 0 where
-  pub written : pageSize ≤ length before → Wrote before after 0 text next
-  pub short : length before < pageSize → (next ≡ 0) × (after ≡ before)
+-- a text at the front of a buffer of so many bytes or more; one that is smaller is left as it was
+pub record ShownOn (size : ℕ) (text before after : List ℕ) (next : ℕ) : Type 0 where
+  pub written : size ≤ length before → Wrote before after 0 text next
+  pub short : length before < size → (next ≡ 0) × (after ≡ before)
   pub within : next ≤ length after
+
+-- of a page
+abbrev pub Shown : List ℕ → List ℕ → List ℕ → ℕ → Type 0
+Shown text before after next = ShownOn pageSize text before after next

@@ -6,7 +6,7 @@ use Rattle.pages.proofs.print_by.Statement.{statement}
 use Rattle.pages.proofs.print_by.Tie as tie
 
 returns : tie.Need-returns
-returns c = small-page _ _ (c .if1 .taken)
+returns c = small-page _ _ _ (c .if1 .taken)
 
 sheet-report-requires : tie.Need-sheet-report-requires
 sheet-report-requires c κs = search needs

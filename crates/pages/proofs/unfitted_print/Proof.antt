@@ -6,7 +6,7 @@ use Rattle.pages.proofs.unfitted_print.Statement.{statement}
 use Rattle.pages.proofs.unfitted_print.Tie as tie
 
 returns : tie.Need-returns
-returns c = small-page _ _ (c .if1 .taken)
+returns c = small-page _ _ _ (c .if1 .taken)
 
 unfitted-fit-requires : tie.Need-unfitted-fit-requires
 unfitted-fit-requires c κs = search needs
