@@ -726,8 +726,8 @@ class Tally:
         self.passed, self.failed, self.due = 0, 0, Counter()
 
     def see(self, what, data, got, due):
-        words = due.split(b" ")
-        self.due[(what, words[1].strip().decode() if words[0] == b"refused" else "taken")] += 1
+        words = due.split()
+        self.due[(what, words[1].decode() if words[0] == b"refused" else "no page" if words[0] == b"nothing" else "taken")] += 1
         if got == (0, due, b""):
             self.passed += 1
         else:
@@ -767,7 +767,7 @@ def drive(newick, tree):
     for data in itertools.chain(inputs, (record + text for record, text, _, _ in texts(rng, 21000))):
         tally.see("text", data, seen(plain + tree if len(data) > 8000 else tree, data), "".join(line + "\n" for line in tree_lines(data)).encode())
     tally.asked("sheet", ["1", "2", "3", "4", "5", "6", "7", "8", "9", "10", "11", "12", "13", "14", "16", "26", "28", "taken"], 5)
-    tally.asked("text", ["2", "3", "4", "6", "8", "10", "13", "28", "29", "taken"], 50)
+    tally.asked("text", ["2", "3", "4", "6", "8", "10", "13", "28", "29", "taken"], 30)
     return tally.end()
 
 
@@ -831,9 +831,9 @@ def drive_calls(words):
         tally.failed += 1
     for (what, data, due), line in itertools.zip_longest(made, lines[:len(made)], fillvalue=b"nothing at all"):
         tally.see(what, data, (0, line, b""), due)
-    tally.asked("read", ["2", "3", "4", "5", "6", "8", "10", "13", "15", "28", "29", "taken"], 50)
+    tally.asked("read", ["2", "3", "4", "5", "6", "8", "10", "13", "15", "28", "29", "taken"], 30)
     tally.asked("write", ["2", "3", "4", "5", "6", "8", "9", "10", "11", "13", "15", "16", "28", "taken"], 20)
-    tally.asked("print", ["1", "2", "3", "4", "5", "6", "14", "28", "taken"], 5)
+    tally.asked("print", ["1", "2", "3", "4", "5", "6", "14", "28", "no page", "taken"], 5)
     return tally.end()
 
 
