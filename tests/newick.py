@@ -14,11 +14,11 @@ minus, digits without a needless leading zero, a point and three digits; zero ha
                              twice or missing, 8, 10, 13, 15 buffers not of K entries
     names, tree, thousandths 2 to 5 and 28 for the names, 6, 8, 9 or 16, 10, 11, 13, 15 a buffer not of 65,536 bytes
 
-    tests/newick.py                     holds this reading to cases worked by hand and to 5,000 drawn trees
+    tests/newick.py --self              holds this reading to cases worked by hand, to 5,000 drawn trees and to 8,000 texts damaged on purpose
+    tests/newick.py --calls WORDS       makes 32,000 calls on the entries from C, by the program of tests/compare_newick.c, which is given by its words
     tests/newick.py --drive NEWICK TREE
-                                        runs the program that writes and the one that reads, each given by its words in one argument, on sheets
-                                        and texts, most of them damaged, and compares every answer
-    tests/newick.py --calls WORDS       the same for the entries from C, by the program of tests/compare_newick.c"""
+                                        runs the program that writes and the one that reads, each given by its words in one argument, on 1,500
+                                        sheets and 3,200 texts, most of them damaged, and compares every answer with its place"""
 import functools
 import itertools
 import os
@@ -841,6 +841,9 @@ def main():
         return drive(*(shlex.split(words) for words in sys.argv[2:4]))
     if sys.argv[1:2] == ["--calls"]:
         return drive_calls(sys.argv[2:])
+    if sys.argv[1:] != ["--self"]:
+        print(__doc__, file=sys.stderr)
+        return 2
     check_by_hand()
     check_sheets_by_hand()
     check_drawn(5000)
