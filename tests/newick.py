@@ -15,7 +15,7 @@ minus, digits without a needless leading zero, a point and three digits; zero ha
     names, tree, thousandths 2 to 5 and 28 for the names, 6, 8, 9 or 16, 10, 11, 13, 15 a buffer not of 65,536 bytes
 
     tests/newick.py --self              holds this reading to cases worked by hand, to 5,000 drawn trees and to 8,000 texts damaged on purpose
-    tests/newick.py --calls WORDS       makes 32,000 calls on the entries from C, by the program of tests/compare_newick.c, which is given by its words
+    tests/newick.py --calls WORDS       makes 32,000 calls on the entries from C, by the program of tests/compare_newick.c, given by its words
     tests/newick.py --drive NEWICK TREE
                                         runs the program that writes and the one that reads, each given by its words in one argument, on 1,500
                                         sheets and 3,200 texts, most of them damaged, and compares every answer with its place"""
@@ -211,34 +211,51 @@ READ_BY_HAND = [
     # of the form, or not: what stands in place of a vertex
     ("();", "28"), ("(a:L,b:L,c:L,d:L,():L);", "28"), ("(a:L,b:L,c:L,d:L,);", "28"), ("(,a:L,b:L,c:L,d:L);", "28"), ("(a:L,,b:L,c:L,d:L);", "28"),
     ("a;", "28"), ("a:L;", "28"), (";", "28"), ("", "28"), ("(a:L,b:L,c:L,d:L)", "28"), ("(a:L,b:L,c:L,d:L;", "28"), ("a:L,b:L,c:L,d:L);", "28"),
-    ("(a:L,b:L,c:L,d:L));", "28"), ("((a:L,b:L,c:L,d:L);", "28"), ("(a:L,b:L,c:L,d:L):L;", "28"), ("(a:L,b:L,c:L,d:L)root;", "28"), ("(a:L,b:L)(c:L,d:L);", "28"),
-    ("(a:L,b:L,(c:L,d:L)x:L);", "28"), ("(a:L,b:L,(c:L,d:L)0:L);", "28"), ("(a:L,b:L,(c:L,d:L));", "28"), ("(a:L,b:L,c:L,d);", "28"), ("(a:L,b:L,c:L,dL);", "28"), ("(a:L,b:L,c:L,d:);", "28"), ("(a:L,b:L,c:L,:L);", "28"),
-    ("(a:L,b:L,c:L,d::L);", "28"), ("(a:L,b:L,c:L,d:L:L);", "28"), ("(a:L b:L,c:L,d:L);", "28"), ("[x](a:L,b:L,c:L,d:L);", "28"), ("('a':L,b:L,c:L,d:L);", "28"),
+    ("(a:L,b:L,c:L,d:L));", "28"), ("((a:L,b:L,c:L,d:L);", "28"), ("(a:L,b:L,c:L,d:L):L;", "28"), ("(a:L,b:L,c:L,d:L)root;", "28"),
+    ("(a:L,b:L)(c:L,d:L);", "28"),
+    ("(a:L,b:L,(c:L,d:L)x:L);", "28"), ("(a:L,b:L,(c:L,d:L)0:L);", "28"), ("(a:L,b:L,(c:L,d:L));", "28"), ("(a:L,b:L,c:L,d);", "28"),
+    ("(a:L,b:L,c:L,dL);", "28"), ("(a:L,b:L,c:L,d:);", "28"), ("(a:L,b:L,c:L,:L);", "28"),
+    ("(a:L,b:L,c:L,d::L);", "28"), ("(a:L,b:L,c:L,d:L:L);", "28"), ("(a:L b:L,c:L,d:L);", "28"), ("[x](a:L,b:L,c:L,d:L);", "28"),
+    ("('a':L,b:L,c:L,d:L);", "28"),
     # nothing follows the semicolon, and there are no blanks
-    ("(a:L,b:L,c:L,d:L);\n", "28"), ("(a:L,b:L,c:L,d:L); ", "28"), ("(a:L,b:L,c:L,d:L);;", "28"), ("(a:L,b:L,c:L,d:L);x", "28"), (" (a:L,b:L,c:L,d:L);", "28"), ("(a:L, b:L,c:L,d:L);", "28"),
-    ("(a:L,\nb:L,c:L,d:L);", "28"), ("(a: 1.000,b:L,c:L,d:L);", "28"), ("(a:L,b:L,c:L,d:L)\t;", "28"), ("(a:L,b:L,c:L,d:L);(a:L,b:L,c:L,d:L);", "28"), ("\0(a:L,b:L,c:L,d:L);", "28"),
+    ("(a:L,b:L,c:L,d:L);\n", "28"), ("(a:L,b:L,c:L,d:L); ", "28"), ("(a:L,b:L,c:L,d:L);;", "28"), ("(a:L,b:L,c:L,d:L);x", "28"),
+    (" (a:L,b:L,c:L,d:L);", "28"), ("(a:L, b:L,c:L,d:L);", "28"),
+    ("(a:L,\nb:L,c:L,d:L);", "28"), ("(a: 1.000,b:L,c:L,d:L);", "28"), ("(a:L,b:L,c:L,d:L)\t;", "28"), ("(a:L,b:L,c:L,d:L);(a:L,b:L,c:L,d:L);", "28"),
+    ("\0(a:L,b:L,c:L,d:L);", "28"),
     # lengths
-    ("(a:0.000,b:L,c:L,d:L);", "0 4 4 4 4 / 0 1000 1000 1000"), ("(a:-0.001,b:L,c:L,d:L);", "0 4 4 4 4 / -1 1000 1000 1000"), ("(a:-12.340,b:L,c:L,d:L);", "0 4 4 4 4 / -12340 1000 1000 1000"),
-    ("(a:-0.000,b:L,c:L,d:L);", "28"), ("(a:1.00,b:L,c:L,d:L);", "28"), ("(a:1.0000,b:L,c:L,d:L);", "28"), ("(a:1.,b:L,c:L,d:L);", "28"), ("(a:1,b:L,c:L,d:L);", "28"), ("(a:.000,b:L,c:L,d:L);", "28"),
-    ("(a:01.000,b:L,c:L,d:L);", "28"), ("(a:00.000,b:L,c:L,d:L);", "28"), ("(a:-01.000,b:L,c:L,d:L);", "28"), ("(a:--1.000,b:L,c:L,d:L);", "28"), ("(a:+1.000,b:L,c:L,d:L);", "28"), ("(a:-.001,b:L,c:L,d:L);", "28"),
-    ("(a:1,000,b:L,c:L,d:L);", "28"), ("(a:1e0,b:L,c:L,d:L);", "28"), ("(a:1.0e0,b:L,c:L,d:L);", "28"), ("(a:1.00-,b:L,c:L,d:L);", "28"), ("(a:1.000.000,b:L,c:L,d:L);", "28"), ("(a:1-.000,b:L,c:L,d:L);", "28"),
+    ("(a:0.000,b:L,c:L,d:L);", "0 4 4 4 4 / 0 1000 1000 1000"), ("(a:-0.001,b:L,c:L,d:L);", "0 4 4 4 4 / -1 1000 1000 1000"),
+    ("(a:-12.340,b:L,c:L,d:L);", "0 4 4 4 4 / -12340 1000 1000 1000"),
+    ("(a:-0.000,b:L,c:L,d:L);", "28"), ("(a:1.00,b:L,c:L,d:L);", "28"), ("(a:1.0000,b:L,c:L,d:L);", "28"), ("(a:1.,b:L,c:L,d:L);", "28"),
+    ("(a:1,b:L,c:L,d:L);", "28"), ("(a:.000,b:L,c:L,d:L);", "28"),
+    ("(a:01.000,b:L,c:L,d:L);", "28"), ("(a:00.000,b:L,c:L,d:L);", "28"), ("(a:-01.000,b:L,c:L,d:L);", "28"), ("(a:--1.000,b:L,c:L,d:L);", "28"),
+    ("(a:+1.000,b:L,c:L,d:L);", "28"), ("(a:-.001,b:L,c:L,d:L);", "28"),
+    ("(a:1,000,b:L,c:L,d:L);", "28"), ("(a:1e0,b:L,c:L,d:L);", "28"), ("(a:1.0e0,b:L,c:L,d:L);", "28"), ("(a:1.00-,b:L,c:L,d:L);", "28"),
+    ("(a:1.000.000,b:L,c:L,d:L);", "28"), ("(a:1-.000,b:L,c:L,d:L);", "28"),
     # 13: 100,000,000,000 over 1000 passes on either side; digits have no end in the form
     ("(a:100000000.000,b:-100000000.000,c:L,d:L);", "0 4 4 4 4 / 100000000000 -100000000000 1000 1000"),
-    ("(a:L,b:100000000.001,c:L,d:L);", "13 edge 1"), ("(a:L,b:L,c:-100000000.001,d:L);", "13 edge 2"), ("(a:L,b:L,c:L,d:1000000000.000);", "13 edge 3"),
+    ("(a:L,b:100000000.001,c:L,d:L);", "13 edge 1"), ("(a:L,b:L,c:-100000000.001,d:L);", "13 edge 2"),
+    ("(a:L,b:L,c:L,d:1000000000.000);", "13 edge 3"),
     ("(d:999999999.999,c:999999999.999,b:L,a:L);", "13 edge 2"), ("((d:L,c:L):200000000.000,b:L,a:L);", "13 edge 4"),
-    ("(a:" + "9" * 60000 + ".000,b:L,c:L,d:L);", "13 edge 0"), ("(a:-1" + "0" * 60000 + ".000,b:L,c:L,d:L);", "13 edge 0"), ("(a:18446744073709551617.000,b:L,c:L,d:L);", "13 edge 0"),
-    ("(a:18446744073709552.616,b:L,c:L,d:L);", "13 edge 0"), ("(a:0" + "9" * 60000 + ".000,b:L,c:L,d:L);", "28"), ("(a:" + "9" * 60000 + ".00,b:L,c:L,d:L);", "28"),
+    ("(a:" + "9" * 60000 + ".000,b:L,c:L,d:L);", "13 edge 0"), ("(a:-1" + "0" * 60000 + ".000,b:L,c:L,d:L);", "13 edge 0"),
+    ("(a:18446744073709551617.000,b:L,c:L,d:L);", "13 edge 0"),
+    ("(a:18446744073709552.616,b:L,c:L,d:L);", "13 edge 0"), ("(a:0" + "9" * 60000 + ".000,b:L,c:L,d:L);", "28"),
+    ("(a:" + "9" * 60000 + ".00,b:L,c:L,d:L);", "28"),
     # 29, behind 28 over the whole text
-    ("(a:L,b:L,c:L,e:L);", "29"), ("(a:L,b:L,c:L,d:L,e:L);", "29"), ("(a:L,b:L,c:L);", "29"), ("(a:L,b:L,c:L,d:L,a:L);", "29"), ("(a:L,b:L,c:L,c:L);", "29"), ("(a:L,b:L,c:L,D:L);", "29"),
-    ("(a:L,b:L,c:L,dd:L);", "29"), ("(e:L,b:L,c:L,d:L)", "28"), ("(a:L,b:L,c:L,0:L);", "29"), ("(a:L,b:L,c:L,abcdefghij:L);", "29"), ("(a:L,b:L,c:L,abcdefghijk:L);", "28"),
-    ("(a:L,b:L,c:L,d.:L);", "28"), ("(a:L,b:L,c:L,d-:L);", "28"), ("(a:L,b:L,c:L,\xe9:L);", "28"), ("((a:L):L,(a:L):L);", "29"), ("((((a:L):L):L,b:L):L,c:L,e:L);", "29"),
+    ("(a:L,b:L,c:L,e:L);", "29"), ("(a:L,b:L,c:L,d:L,e:L);", "29"), ("(a:L,b:L,c:L);", "29"), ("(a:L,b:L,c:L,d:L,a:L);", "29"),
+    ("(a:L,b:L,c:L,c:L);", "29"), ("(a:L,b:L,c:L,D:L);", "29"),
+    ("(a:L,b:L,c:L,dd:L);", "29"), ("(e:L,b:L,c:L,d:L)", "28"), ("(a:L,b:L,c:L,0:L);", "29"), ("(a:L,b:L,c:L,abcdefghij:L);", "29"),
+    ("(a:L,b:L,c:L,abcdefghijk:L);", "28"),
+    ("(a:L,b:L,c:L,d.:L);", "28"), ("(a:L,b:L,c:L,d-:L);", "28"), ("(a:L,b:L,c:L,\xe9:L);", "28"), ("((a:L):L,(a:L):L);", "29"),
+    ("((((a:L):L):L,b:L):L,c:L,e:L);", "29"),
     # 29 before 8, 10 and 13
     ("(e:200000000.000,b:L,c:L,d:L);", "29"), ("((e:L):L,b:L,c:L,d:L);", "29"),
     # 8: V is at most 6 with four strains
-    ("((a:L,b:L):L,(c:L,d:L):L);", "8"), ("(((a:L,b:L):L,c:L):L,d:L);", "8"), ("((a:L,b:L,c:L,d:L):L);", "10 vertex 5"), ("(((a:L,b:L,c:L,d:L):L):L);", "8"), ("((a:L):L,(b:L):L,(c:L):L,(d:L):L);", "8"),
+    ("((a:L,b:L):L,(c:L,d:L):L);", "8"), ("(((a:L,b:L):L,c:L):L,d:L);", "8"), ("((a:L,b:L,c:L,d:L):L);", "10 vertex 5"),
+    ("(((a:L,b:L,c:L,d:L):L):L);", "8"), ("((a:L):L,(b:L):L,(c:L):L,(d:L):L);", "8"),
     ("((a:L,b:L):200000000.000,(c:L,d:L):L);", "8"),
     # 10: the root has three children or more, another bracket two; the lowest at fault is said
-    ("((a:L):L,b:L,c:L,d:L);", "10 vertex 4"), ("(b:L,c:L,(a:L):L,d:L);", "10 vertex 4"), ("((a:L,b:L,c:L):L,d:L);", "10 vertex 5"), ("((a:L):200000000.000,b:L,c:L,d:L);", "10 vertex 4"),
+    ("((a:L):L,b:L,c:L,d:L);", "10 vertex 4"), ("(b:L,c:L,(a:L):L,d:L);", "10 vertex 4"), ("((a:L,b:L,c:L):L,d:L);", "10 vertex 5"),
+    ("((a:L):200000000.000,b:L,c:L,d:L);", "10 vertex 4"),
     ("((a:L,b:L):L,c:L,d:L);", "0 4 4 5 5 5 / 1000 1000 1000 1000 1000"),
 ]
 # the same beside a b c d e, where brackets close in another order than they open: b and c close first, then a with those
@@ -251,20 +268,26 @@ READ_FIVE = [
 ONE_A = names_record(ABCD)
 GOOD = b"(a:1.000,b:1.000,c:1.000,d:1.000);"
 IN_FULL = [
-    (b"", "refused 2 byte 0"), (ONE_A[:5], "refused 2 byte 0"), (ONE_A[:6], "refused 2 byte 0"), (ONE_A[:13], "refused 2 byte 0"), (ONE_A, "refused 28"),
+    (b"", "refused 2 byte 0"), (ONE_A[:5], "refused 2 byte 0"), (ONE_A[:6], "refused 2 byte 0"), (ONE_A[:13], "refused 2 byte 0"),
+    (ONE_A, "refused 28"),
     (ONE_A + GOOD, "tree 4 4"), (names_record(ABCD, 4) + GOOD, "refused 3 byte 0"), (names_record(ABCD, 261) + GOOD, "refused 3 byte 0"),
     (b"\xff\xff\xff\xff\x05\x00" + ONE_A[6:] + GOOD, "refused 2 byte 0"),
     # a body of seven bytes: the fourth name is cut; of nine: its last byte, (, is a length of 40
     (b"\x07" + ONE_A[1:] + GOOD, "refused 4 byte 0"), (b"\x09" + ONE_A[1:] + GOOD, "refused 4 byte 0"),
     # 4 before 28: the second name is not of the form, and the last is cut
     (reading.record(5, b"\1a\1-\1c\2d") + GOOD, "refused 4 byte 0"),
-    (reading.record(5, b"") + GOOD, "refused 6"), (reading.record(5, b"\0") + GOOD, "refused 28"), (reading.record(5, b"\0" * 704) + GOOD, "refused 28"),
+    (reading.record(5, b"") + GOOD, "refused 6"), (reading.record(5, b"\0") + GOOD, "refused 28"),
+    (reading.record(5, b"\0" * 704) + GOOD, "refused 28"),
     (names_record([b"a", b"b", b"c", b"abcdefghijk"]) + GOOD, "refused 28"), (names_record([b"a", b"b", b"c", b"x" * 255]) + GOOD, "refused 28"),
-    (names_record([b"a", b"b", b"c", b"b"]) + GOOD, "refused 28"), (names_record([b"a", b"b", b"c", b"d "]) + GOOD, "refused 28"), (names_record([b"a", b"b", b"c", b"B"]) + b"", "refused 28"),
-    (names_record([b"a", b"b"]) + GOOD, "refused 6"), (names_record([b"a", b"a"]) + GOOD, "refused 28"), (names_record([b"s%d" % k for k in range(65)]) + GOOD, "refused 6"),
-    (names_record([b"a", b"b"]) + b"(", "refused 6"), (names_record([b"s%d" % k for k in range(64)]) + b"(", "refused 28"), (names_record([b"a", b"b", b"c", b"d", b"e"]) + GOOD, "refused 29"),
+    (names_record([b"a", b"b", b"c", b"b"]) + GOOD, "refused 28"), (names_record([b"a", b"b", b"c", b"d "]) + GOOD, "refused 28"),
+    (names_record([b"a", b"b", b"c", b"B"]) + b"", "refused 28"),
+    (names_record([b"a", b"b"]) + GOOD, "refused 6"), (names_record([b"a", b"a"]) + GOOD, "refused 28"),
+    (names_record([b"s%d" % k for k in range(65)]) + GOOD, "refused 6"),
+    (names_record([b"a", b"b"]) + b"(", "refused 6"), (names_record([b"s%d" % k for k in range(64)]) + b"(", "refused 28"),
+    (names_record([b"a", b"b", b"c", b"d", b"e"]) + GOOD, "refused 29"),
     # of more than 66,247 bytes the first 66,247 count: a text that is too long, or a record that is cut
-    (ONE_A + b"(" * 70000, "refused 28"), (reading.record(5, b"\1a" * 35000), "refused 2 byte 0"), (reading.record(4, b"\1a" * 33120), "refused 3 byte 0"), (reading.record(4, b"\1a" * 33121), "refused 2 byte 0"),
+    (ONE_A + b"(" * 70000, "refused 28"), (reading.record(5, b"\1a" * 35000), "refused 2 byte 0"),
+    (reading.record(4, b"\1a" * 33120), "refused 3 byte 0"), (reading.record(4, b"\1a" * 33121), "refused 2 byte 0"),
     (names_record([b"a", b"b"]) + b"(" * 70000, "refused 6"),
 ]
 
@@ -321,20 +344,26 @@ def sheets_by_hand():
         yield named(reading.sheet(*A), names), "refused 4 byte 87"
     yield reading.sheet(*A) + reading.record(5, b"\1a\1b\1c\2d"), "refused 4 byte 87"
     yield reading.sheet(*A) + reading.record(5, b"\1a\1b\1c\0d"), "refused 4 byte 87"  # behind the fourth name stands a d
-    for names in ([b"a", b"b", b"c", b""], [b"a", b"b", b"c", b"elevenbytes"], [b"a", b"b", b"c", b"c"], [b"a", b"b", b"c", b"a b"], [b"a", b"b", b"c", b"d."]):
-        yield named(reading.sheet(*A), names), "refused 28"
+    for name in (b"", b"elevenbytes", b"c", b"a b", b"d."):
+        yield named(reading.sheet(*A), [b"a", b"b", b"c", name]), "refused 28"
     yield named(reading.sheet(*A), [b"A", b"a", b"__________", b"0123456789"]), "(__________:1.500,0123456789:3.500,(A:1.500,a:1.500):3.500);"
     # 4 for the names comes before 6, and 28 before it too: N = 2 with two names, with three, and with one name twice
-    for names, due in (([b"a", b"b"], "refused 6"), ([b"a", b"b", b"c"], "refused 4 byte %d" % (6 + 4 + 6 + 6 + 6 + 22)), ([b"a", b"a"], "refused 28")):
+    for names, due in ((ABCD[:2], "refused 6"), (ABCD[:3], "refused 4 byte %d" % (6 + 4 + 6 + 6 + 6 + 22)), ([b"a", b"a"], "refused 28")):
         yield named(reading.sheet(2, [1], [2, 2], 1, [1, 0]), names), due
     yield named(reading.sheet(0, [], [], 1, []), []), "refused 6"
     # 28 before 7, 8, 9, 14, and those with the places that they have without names
     off = reading.sheet(n, distances, parents, d, numerators[:-1] + [6])
-    for sheet, due in ((off, "refused 14 edge 0 2"), (reading.sheet(n, [50001] + distances[1:], parents, d, numerators), "refused 7"),
-                       (reading.sheet(n, distances, [4, 4, 4], d, [1] * 3), "refused 8"), (reading.sheet(n, distances, [4, 4, 5, 5, 4], d, numerators), "refused 9 vertex 4"),
-                       (reading.sheet(n, distances, [4, 4, 5, 5, 6], d, numerators), "refused 16 vertex 4"), (reading.sheet(n, distances, [4, 5, 5, 5, 5], d, numerators), "refused 10 vertex 4"),
-                       (reading.sheet(n, [reading.MISSING] * 3 + distances[3:], parents, d, numerators), "refused 26 edge 0"), (reading.sheet(n, distances, parents, d, numerators[:4]), "refused 11"),
-                       (reading.sheet(n, distances, parents, 0, numerators), "refused 12"), (reading.sheet(n, distances, parents, d, numerators[:4] + [10 ** 11 + 1]), "refused 13 edge 4")):
+    made = lambda distances=distances, parents=parents, d=d, numerators=numerators: reading.sheet(n, distances, parents, d, numerators)
+    for sheet, due in ((off, "refused 14 edge 0 2"),
+                       (made(distances=[50001] + distances[1:]), "refused 7"),
+                       (made(parents=[4, 4, 4], numerators=[1] * 3), "refused 8"),
+                       (made(parents=[4, 4, 5, 5, 4]), "refused 9 vertex 4"),
+                       (made(parents=[4, 4, 5, 5, 6]), "refused 16 vertex 4"),
+                       (made(parents=[4, 5, 5, 5, 5]), "refused 10 vertex 4"),
+                       (made(distances=[reading.MISSING] * 3 + distances[3:]), "refused 26 edge 0"),
+                       (made(numerators=numerators[:4]), "refused 11"),
+                       (made(d=0), "refused 12"),
+                       (made(numerators=numerators[:4] + [10 ** 11 + 1]), "refused 13 edge 4")):
         yield named(sheet, ABCD), due
         yield named(sheet, ABCD[:3] + [b"a"]), "refused 28"
     # lengths that are negative, and that round to zero: three strains at 1 1 4 have -1 2 2; a third and a sixth of a unit
@@ -345,7 +374,8 @@ def sheets_by_hand():
     crossed = [6, 6, 7, 7, 8, 9, 8, 9, 9]
     below = reading.clusters(6, crossed)
     paths = [reading.path(below, list(range(1, 10)), i, j) for i, j in reading.pairs_of(6)]
-    yield named(reading.sheet(6, paths, crossed, 1, list(range(1, 10))), ABCDE + [b"f"]), "(f:6.000,(c:3.000,d:4.000):8.000,(e:5.000,(a:1.000,b:2.000):7.000):9.000);"
+    yield (named(reading.sheet(6, paths, crossed, 1, list(range(1, 10))), ABCDE + [b"f"]),
+           "(f:6.000,(c:3.000,d:4.000):8.000,(e:5.000,(a:1.000,b:2.000):7.000):9.000);")
 
 
 def check_sheets_by_hand():
@@ -360,11 +390,19 @@ def check_sheets_by_hand():
     # the call without a fit, in the order of its tests
     far = [10 ** 11 + 1, 0, 0, 0]
     for record, parents, thousandths, room, due in (
-            (ONE_A[:13], [], far, 0, (2, "byte", 0)), (names_record(ABCD, 1), [], far, 0, (3, "byte", 0)), (reading.record(5, b"\2a"), [], far, 0, (4, "byte", 0)),
-            (ONE_A + b"\0", [], far, 0, (5, "byte", 14)), (names_record([b"a", b"a"]), [], far, 0, (28,)), (names_record([b"a", b"b"]), [], far, 0, (6,)),
-            (ONE_A, [], far, 0, (8,)), (ONE_A, [4, 4, 4], far, 0, (8,)), (ONE_A, [4, 4, 5, 5, 5, 6], far, 0, (8,)), (ONE_A, [4, 4, 4, 3], far, 0, (9, "vertex", 3)),
-            (ONE_A, [4, 5, 4, 3], far, 0, (16, "vertex", 1)), (ONE_A, [4, 5, 5, 5, 5], far, 0, (10, "vertex", 4)), (ONE_A, [4] * 4, far[1:], 0, (11,)), (ONE_A, [4] * 4, far + [0], 0, (11,)),
-            (ONE_A, [4] * 4, far, 0, (13, "edge", 0)), (ONE_A, [4] * 4, far[1:] + [-far[0]], 0, (13, "edge", 3)), (ONE_A, [4] * 4, [10 ** 11] * 4, 65535, (15,)), (ONE_A, [4] * 4, far[1:] + [-1], 65537, (15,))):
+            (ONE_A[:13], [], far, 0, (2, "byte", 0)),
+            (names_record(ABCD, 1), [], far, 0, (3, "byte", 0)),
+            (reading.record(5, b"\2a"), [], far, 0, (4, "byte", 0)),
+            (ONE_A + b"\0", [], far, 0, (5, "byte", 14)),
+            (names_record([b"a", b"a"]), [], far, 0, (28,)),
+            (names_record([b"a", b"b"]), [], far, 0, (6,)),
+            (ONE_A, [], far, 0, (8,)), (ONE_A, [4, 4, 4], far, 0, (8,)), (ONE_A, [4, 4, 5, 5, 5, 6], far, 0, (8,)),
+            (ONE_A, [4, 4, 4, 3], far, 0, (9, "vertex", 3)),
+            (ONE_A, [4, 5, 4, 3], far, 0, (16, "vertex", 1)),
+            (ONE_A, [4, 5, 5, 5, 5], far, 0, (10, "vertex", 4)),
+            (ONE_A, [4] * 4, far[1:], 0, (11,)), (ONE_A, [4] * 4, far + [0], 0, (11,)),
+            (ONE_A, [4] * 4, far, 0, (13, "edge", 0)), (ONE_A, [4] * 4, far[1:] + [-far[0]], 0, (13, "edge", 3)),
+            (ONE_A, [4] * 4, [10 ** 11] * 4, 65535, (15,)), (ONE_A, [4] * 4, far[1:] + [-1], 65537, (15,))):
         assert write(record, parents, thousandths, room) == (due, None), (record, parents, due)
     assert write(ONE_A, [4] * 4, [10 ** 11, -10 ** 11, 1, -1]) == ((), b"(a:100000000.000,b:-100000000.000,c:0.001,d:-0.001);")
 
@@ -482,18 +520,21 @@ class Page:
             edge[1] = b":" + rng.choice(NO_LENGTHS)
             return 28
         if kind == 1:
-            edge[1] = b":" + rng.choice((b"", b"-")) + rng.choice((b"100000000.001", b"100000001.000", b"999999999.999", b"1000000000.000", b"1" + b"0" * 30 + b".000",
-                                                                    b"4294967296000.000", b"18446744073709551.616", b"18446744073709552616.001", b"9" * rng.choice((12, 16, 19, 20, 40, 3000)) + b".999"))
+            edge[1] = b":" + rng.choice((b"", b"-")) + rng.choice(TOO_FAR + [b"9" * rng.choice((12, 16, 19, 20, 40, 3000)) + b".999"])
             return 13
         if kind == 2:
-            edge[1] = rng.choice((b"", edge[1][1:], b":" + edge[1], edge[1] + edge[1], edge[1] + b"x", b";" + edge[1][1:], b" " + edge[1], edge[1] + b" ", b"::", b":"))
+            edge[1] = rng.choice((b"", edge[1][1:], b":" + edge[1], edge[1] + edge[1], edge[1] + b"x", b";" + edge[1][1:], b" " + edge[1],
+                                  edge[1] + b" ", b"::", b":"))
             return 28
         if kind == 3:
-            strain[0] = rng.choice((b"abcdefghijk", strain[0] + b"." , b"-" + strain[0], b"'" + strain[0] + b"'", b"", b" " + strain[0], strain[0] + b"\n", strain[0] + b"\xc3\xa9", b"{0}", strain[0] + b"@",
-                                    b"[" + strain[0] + b"]", b"`", b"/", b"x" * 200))
+            own = strain[0]
+            strain[0] = rng.choice((b"abcdefghijk", b"x" * 200, b"", own + b".", b"-" + own, b"'" + own + b"'", b" " + own, own + b"\n",
+                                    own + b"\xc3\xa9", own + b"@", b"[" + own + b"]", b"`", b"/", b"{0}"))
             return 28
         if kind == 4:
-            strain[0] = rng.choice([name for name in (b"abcdefghij", b"x", b"unknown", (strain[0].swapcase() + b"_")[:10], strain[0][:-1], strain[0][:9] + b"7") if name and name not in self.names] or [b"nobody_99"])
+            own = strain[0]
+            near = (b"abcdefghij", b"x", b"unknown", (own.swapcase() + b"_")[:10], own[:-1], own[:9] + b"7")
+            strain[0] = rng.choice([name for name in near if name and name not in self.names])
             return 29
         if kind == 5:
             strain[0] = self.vertices[(self.vertices.index(strain) + rng.randrange(1, n)) % n][0]
@@ -564,8 +605,12 @@ class Page:
         return data[:at] + bytes([rng.choice((0, 1, 10, 11, 255, data[at] ^ 1, rng.randrange(256)))]) + data[at + 1:]
 
 
-NO_LENGTHS = [b"-0.000", b"1.00", b"1.0000", b"1.", b"1", b".000", b".5", b"00.000", b"01.000", b"-01.000", b"-00.001", b"--1.000", b"+1.000", b"-.001", b"1e3", b"1.0e0", b"1.00e", b"1,000", b"1.000.000", b"-", b".",
-              b"0x1.000", b"nan", b"inf", b"1 .000", b"1. 000", b"1.0 0", b"\xb21.000", b"1.00\xb2", b"1..000", b"1.-00", b"1.00-", b"000.000", b"0", b"-0", b"0.00", b"0.0000", b"1:000", b"1;000", b"1.000\0"]
+TOO_FAR = [b"100000000.001", b"100000001.000", b"999999999.999", b"1000000000.000", b"1" + b"0" * 30 + b".000", b"4294967296000.000",
+           b"18446744073709551.616", b"18446744073709552616.001"]
+NO_LENGTHS = [b"-0.000", b"1.00", b"1.0000", b"1.", b"1", b".000", b".5", b"00.000", b"01.000", b"-01.000", b"-00.001", b"--1.000", b"+1.000",
+              b"-.001", b"1e3", b"1.0e0", b"1.00e", b"1,000", b"1.000.000", b"-", b".", b"0x1.000", b"nan", b"inf", b"1 .000", b"1. 000",
+              b"1.0 0", b"\xb21.000", b"1.00\xb2", b"1..000", b"1.-00", b"1.00-", b"000.000", b"0", b"-0", b"0.00", b"0.0000", b"1:000",
+              b"1;000", b"1.000\0"]
 
 
 def spoilt(rng, text):
@@ -573,7 +618,8 @@ def spoilt(rng, text):
     at = rng.randrange(len(text))
     byte = bytes([rng.choice(b"(),:;.-0123456789aZ_ \n\0\xff")])
     to = at + rng.randint(1, 30)
-    return rng.choice((text[:at] + bytes([text[at] ^ 1 << rng.randrange(8)]) + text[at + 1:], text[:at] + byte + text[at + 1:], text[:at] + text[at + 1:], text[:at + 1] + text[at:],
+    flipped = bytes([text[at] ^ 1 << rng.randrange(8)])
+    return rng.choice((text[:at] + flipped + text[at + 1:], text[:at] + byte + text[at + 1:], text[:at] + text[at + 1:], text[:at + 1] + text[at:],
                        text[:at] + byte + text[at:], text[:at] + text[at:at + 2][::-1] + text[at + 2:], text[:to] + text[at:], text[:at]))
 
 
@@ -632,8 +678,9 @@ def large_texts():
     # every strain under 61 brackets, 3,905 vertices: 8, and no table that is smaller than that may be written
     yield names_record(names), b"(" + b",".join(b"(" * 61 + name + b":0.000" + b"):0.000" * 61 for name in names) + b");", [125, 125], 8
     yield names_record(names), b"(" + b",".join(b"(" * 3 + name + b":0.000" + b"):0.000" * 3 for name in names) + b");", [255, 255], 8
-    for record in (names_record([b"s%d" % k for k in range(6000)]), reading.record(5, b"\0" * 66000), reading.record(5, b"\1a" * 33119), reading.record(5, b"\377" * 65536)):
-        yield record, GOOD, [4, 4], None
+    yield names_record([b"s%d" % k for k in range(6000)]), GOOD, [4, 4], 6
+    for body, due in ((b"\0" * 66000, 28), (b"\1a" * 33119, 28), (b"\377" * 65536, 28)):
+        yield reading.record(5, body), GOOD, [4, 4], due
 
 
 # ---- sheets with names
@@ -660,7 +707,8 @@ def sheets(rng, count):
             yield sheet + shortest.damaged(rng, names_record(names))
         elif kind < 0.8:
             some = rng.randrange(n)
-            names[some] = rng.choice((b"", names[some] + b"-", names[some] * 11, names[some - 1], b"a b", b"x" * 11, b"x" * 255, names[some][:1] + b"\0", b"\x80"))
+            own = names[some]
+            names[some] = rng.choice((b"", own + b"-", own * 11, names[some - 1], b"a b", b"x" * 11, b"x" * 255, own[:1] + b"\0", b"\x80"))
             yield named(sheet if rng.random() < 0.5 else shortest.damaged(rng, sheet), names)
         elif kind < 0.85:
             yield named(sheet, rng.choice((names[1:], names + [b"more_names"], names[:0], names * 2)))
@@ -680,7 +728,8 @@ def sheets(rng, count):
         else:
             distances = reading.read_sheet(sheet)[1][1]
             parents = some_parents(rng, n)
-            yield named(reading.sheet(n, distances, parents, rng.choice((0, 1, 2, 1000, 10 ** 6 + 1)), [rng.choice((0, 1, FAR, FAR + 1, -1)) for _ in parents]), names)
+            denominator, numerators = rng.choice((0, 1, 2, 1000, 10 ** 6 + 1)), [rng.choice((0, 1, FAR, FAR + 1, -1)) for _ in parents]
+            yield named(reading.sheet(n, distances, parents, denominator, numerators), names)
 
 
 def hurt_fields(rng, sheet):
@@ -744,7 +793,8 @@ class Tally:
 
     def end(self):
         for what in sorted({what for what, _ in self.due}):
-            print("%s: %s" % (what, ", ".join("%s %d" % (number, self.due[(what, number)]) for number in sorted((x for w, x in self.due if w == what), key=lambda x: (len(x), x)))))
+            numbers = sorted((x for w, x in self.due if w == what), key=lambda x: (len(x), x))
+            print("%s: %s" % (what, ", ".join("%s %d" % (number, self.due[(what, number)]) for number in numbers)))
         print("%d passed, %d failed" % (self.passed, self.failed))
         return 1 if self.failed else 0
 
@@ -786,9 +836,10 @@ def calls(rng):
         record, parents, thousandths, room = some_call(rng)
         answer, text = write(record, parents, thousandths, room)
         packed = b"".join(struct.pack("<q", x) for x in thousandths)
-        yield "write", led(2, len(record), len(parents), len(thousandths), room, record, bytes(parents), packed), number(answer) if answer else b"text " + text
+        data = led(2, len(record), len(parents), len(thousandths), room, record, bytes(parents), packed)
+        yield "write", data, number(answer) if answer else b"text " + text
     for data in sheets(rng, 5000):
-        page = rng.choice((MAX_TEXT + 1, MAX_TEXT + 1, MAX_TEXT + 1, MAX_TEXT + 2, 70000, MAX_TEXT, 16384, 0))
+        page = MAX_TEXT + 1 if rng.random() < 0.8 else rng.choice((MAX_TEXT + 2, 70000, MAX_TEXT, 16384, 0))
         yield "print", led(3, len(data), page, 0, 0, data), newick_line(data).encode() if page > MAX_TEXT else b"nothing"
 
 
