@@ -18,7 +18,8 @@ minus, digits without a needless leading zero, a point and three digits; zero ha
     tests/newick.py --calls WORDS       makes 32,000 calls on the entries from C, by the program of tests/compare_newick.c, given by its words
     tests/newick.py --drive NEWICK TREE
                                         runs the program that writes and the one that reads, each given by its words in one argument, on 1,500
-                                        sheets and 3,200 texts, most of them damaged, and compares every answer with its place"""
+                                        sheets and 3,200 texts, most of them damaged, and compares every answer with its place
+    tests/newick.py --large DIRECTORY   writes texts that would ask much of a stack there, N.stdin each, and what the program prints, N.stdout"""
 import functools
 import itertools
 import os
@@ -683,6 +684,19 @@ def large_texts():
         yield reading.record(5, body), GOOD, [4, 4], due
 
 
+def large_files(directory):
+    """The large texts as inputs, and the deepest tree that is taken, of 64 strains; with what is due of each."""
+    names = [b"s%d" % k for k in range(64)]
+    deepest = text_of(names, table_of(caterpillar(64), 64), [k - 60 for k in range(125)])
+    inputs = [record + text for record, text, _, _ in large_texts()] + [names_record(names) + deepest]
+    for k, data in enumerate(inputs):
+        with open(os.path.join(directory, "%d.stdin" % k), "wb") as file:
+            file.write(data)
+        with open(os.path.join(directory, "%d.stdout" % k), "w") as file:
+            file.write("".join(line + "\n" for line in tree_lines(data)))
+    return 0
+
+
 # ---- sheets with names
 def sheets(rng, count):
     """Sheets with names, most of them damaged; few are large, since this reading takes a while for those."""
@@ -892,6 +906,8 @@ def main():
         return drive(*(shlex.split(words) for words in sys.argv[2:4]))
     if sys.argv[1:2] == ["--calls"]:
         return drive_calls(sys.argv[2:])
+    if sys.argv[1:2] == ["--large"]:
+        return large_files(sys.argv[2])
     if sys.argv[1:] != ["--self"]:
         print(__doc__, file=sys.stderr)
         return 2
