@@ -304,6 +304,7 @@ def shown(answer, tables):
 
 def check_by_hand():
     assert len(ONE_A) == 14 and len(A_NAMED) == 101 and ONE_A == bytes.fromhex("08000000 0500 0161 0162 0163 0164")
+    assert names_record([b"a", b"B_2"]) == bytes.fromhex("06000000 0500 0161 03425f32")
     assert newick_line(A_NAMED) == TEXT_A and tree_lines(ONE_A + TEXT_A.encode()) == LINES_A
     for names, cases in ((ABCD, READ_BY_HAND), (ABCDE, READ_FIVE)):
         for text, due in cases:
