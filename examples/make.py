@@ -1,15 +1,19 @@
 #!/usr/bin/env python3
-"""Writes the example sheets beside this script. README.md in this folder says what each shows."""
+"""Writes the example sheets and trees beside this script. README.md in this folder says what each shows."""
 import os
 import sys
 
 HERE = os.path.dirname(os.path.abspath(__file__))
 sys.path.insert(0, os.path.join(HERE, "..", "tests"))
 import make_figures  # noqa: E402
+import newick  # noqa: E402
 import reading  # noqa: E402
 import shortest  # noqa: E402
 
 n, distances, parents, denominator, numerators = make_figures.A
+names = [b"one", b"two", b"three", b"four"]
+animals = [b"dog", b"bear", b"raccoon", b"weasel", b"seal", b"sea_lion", b"cat", b"monkey"]
+tree = newick.names_record(names)
 SHEETS = {
     "a.sheet": reading.sheet(*make_figures.A),
     "old-distances.sheet": reading.sheet(n, [4] + distances[1:], parents, denominator, numerators),
@@ -23,6 +27,14 @@ SHEETS = {
     "a-03.sheet": shortest.WITH_03,
     "a.unfitted": reading.bare_sheet(n, distances, parents),
     "cut.sheet": reading.sheet(*make_figures.A)[:-1],
+    "a.named": newick.named(reading.sheet(*make_figures.A), names),
+    "carnivores.named": newick.named(reading.sheet(*make_figures.table_one()), animals),
+    "blank-in-name.named": newick.named(reading.sheet(*make_figures.table_one()), [name.replace(b"_", b" ") for name in animals]),
+    "a.tree": tree + newick.text_of(names, parents, [1500, 1500, 1500, 3500, 3500]),
+    "nested.tree": newick.names_record(names + [b"five"]) + b"((one:1.000,(two:0.250,three:-0.125):2.500):3.000,four:10.000,five:0.000);",
+    "rooted.tree": tree + b"((one:1.500,two:1.500):1.750,(three:1.500,four:3.500):1.750);",
+    "two-places.tree": tree + b"(three:1.50,four:3.50,(one:1.50,two:1.50):3.50);",
+    "unknown.tree": tree + b"(three:1.500,for:3.500,(one:1.500,two:1.500):3.500);",
 }
 for name, data in SHEETS.items():
     with open(os.path.join(HERE, name), "wb") as file:

@@ -1,4 +1,4 @@
-/* The verdict on a sheet, the direct fit of a resolved tree, the prints of sheets, and PHYLIP's square matrices, for programs in C and C++. Every
+/* The verdict on a sheet, the direct fit of a resolved tree, the prints of sheets, PHYLIP's square matrices, and trees in text, for programs in C and C++. Every
  * function is proved: it answers whatever it is lent, and reads and writes nothing outside that. Link with libsheet.a
  * for the verdict, libdirect_fit.a for the fit, libpages.a for the prints; where several are wanted, libpages.a first. */
 #ifndef VAMUTHEXA_H
@@ -38,7 +38,9 @@ enum vamuthexa_number {
     VAMUTHEXA_NEGATIVE = 22,      /* a negative numerator; only where no length may be negative */
     VAMUTHEXA_ZERO_EDGE = 23,     /* likewise, an edge of length zero whose sum is positive: a longer one would fit better */
     VAMUTHEXA_UNRESOLVED = 25,    /* some inner vertex not of degree three; never for a sheet with lengths */
-    VAMUTHEXA_UNMEASURED = 26     /* an edge that parts no measured pair; for the direct fit, any missing pair */
+    VAMUTHEXA_UNMEASURED = 26,    /* an edge that parts no measured pair; for the direct fit, any missing pair */
+    VAMUTHEXA_NEWICK = 28,        /* a name not of the form or repeated; a tree's text too long, not of its form or nested too deep */
+    VAMUTHEXA_NAME = 29           /* in a tree's text, a name unknown, used twice or missing */
 };
 
 /* The number of the sheet in the bytes at `sheet`; `length` may be 0. */
@@ -92,6 +94,30 @@ uint32_t phylip_read(const uint8_t *text, size_t size, uint16_t *distances, size
  * overlap another. Link with libphylip_write.a. */
 uint32_t phylip_write(uint32_t n, const uint16_t *distances, size_t distance_count, const uint8_t *names,
                       size_t name_count, uint8_t *text, size_t size, size_t *length);
+
+/* The bytes of a page for the print of a tree: its text, and a line end. */
+enum { VAMUTHEXA_TREE_PAGE = VAMUTHEXA_TEXT_SIZE + 1 };
+
+/* Writes to the front of `text` what the program `newick` prints of a sheet with names, which has a fourth record of kind 5 behind its
+ * lengths: its tree in Newick form and LF, or the line with the number and the place of its refusal. Returns how many bytes were written,
+ * at most VAMUTHEXA_TREE_PAGE, and leaves all behind them as it was. Where `size` is below VAMUTHEXA_TREE_PAGE, it writes nothing and
+ * returns 0. The two buffers may not overlap. Link with libpages.a. */
+size_t newick_print(const uint8_t *sheet, size_t length, uint8_t *text, size_t size);
+
+/* Writes a tree in Newick form to the front of `text`, which must have exactly VAMUTHEXA_TEXT_SIZE bytes; no fit is asked for. `names` is a names
+ * record, its head included, and says how many strains there are; a tree of K edges has K parents and K lengths in thousandths. No
+ * zero follows the text and no byte behind it changes. The number is 2 to 5, 28, 6, 8 to 10, 16, 11, 13 or 15, or 0 where the text is
+ * written and its length is in `length`; otherwise both are as they were. Reading the text gives the same tree, its inner vertices
+ * perhaps numbered otherwise, and the same thousandths. No buffer may overlap another. Link with libnewick_write.a. */
+uint32_t newick_write(const uint8_t *names, size_t names_length, const uint8_t *parents, size_t parent_count, const int64_t *thousandths,
+                      size_t thousandth_count, uint8_t *text, size_t size, size_t *length);
+
+/* The tree in the `size` bytes at `text`, in Newick form, whose strains are those of the names record: a parent for each of its K edges goes to
+ * `parents` and its length in thousandths to `numerators`, each of which must have exactly K entries. Inner vertices are numbered
+ * as their brackets close. The number is 2 to 5, 28, 6, 29, 8, 10, 13 or 15, or 0 where both buffers are filled; otherwise they are as
+ * they were. No buffer may overlap another. Link with libnewick_read.a. */
+uint32_t newick_read(const uint8_t *names, size_t names_length, const uint8_t *text, size_t size, uint8_t *parents,
+                     size_t parent_count, int64_t *numerators, size_t numerator_count);
 
 #ifdef __cplusplus
 }

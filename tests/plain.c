@@ -4,7 +4,7 @@
 #include <stdio.h>
 #include <string.h>
 
-enum { MAX_N = 64, MAX_V = 2 * MAX_N - 2, MAX_SHEET = 5187, MISSING = 65535 };
+enum { MAX_N = 64, MAX_V = PLAIN_VERTICES, MAX_SHEET = 5187, MAX_NAMES = 6 + 11 * MAX_N, MISSING = 65535 };
 
 static uint64_t little(const uint8_t *at, int bytes) {
     uint64_t x = 0;
@@ -16,7 +16,8 @@ static uint64_t little(const uint8_t *at, int bytes) {
 
 struct sheet {
     uint32_t n, tree_n, v, k, d;
-    const uint8_t *distances, *parents, *numerators;
+    const uint8_t *distances, *parents, *numerators, *names;
+    size_t name_bytes;
 };
 
 /* Where the fault is; no word where the number has no place, and a sum that is zero where it has none. */
@@ -32,13 +33,14 @@ static uint32_t refuse(uint32_t number, struct place *place, const char *word, s
     return number;
 }
 
-/* 1 to 5, over two records or three. */
+/* 1 to 5, over two records, three, or with names four. */
 static uint32_t read_form(int records, const uint8_t *s, size_t length, struct sheet *out, struct place *place) {
-    if (length > MAX_SHEET) {
+    if (length > (records == 4 ? MAX_SHEET + MAX_NAMES : MAX_SHEET)) {
         return 1;
     }
     size_t at = 0;
-    for (int kind = 1; kind <= records; kind++) {
+    for (int record = 1; record <= records; record++) {
+        int kind = record == 4 ? 5 : record;
         refuse(0, place, "byte", at); /* the place of 2, 3 and 4 */
         if (length - at < 6) {
             return 2;
@@ -71,6 +73,12 @@ static uint32_t read_form(int records, const uint8_t *s, size_t length, struct s
                 return 4;
             }
             out->parents = body + 4;
+        } else if (kind == 5) {
+            if (plain_count_names(body, (size_t)size) != (int64_t)out->n) {
+                return 4;
+            }
+            out->names = body;
+            out->name_bytes = (size_t)size;
         } else {
             if (size < 6) {
                 return 4;
@@ -86,6 +94,15 @@ static uint32_t read_form(int records, const uint8_t *s, size_t length, struct s
     }
     place->word = NULL;
     return at == length ? 0 : refuse(5, place, "byte", at);
+}
+
+int64_t plain_count_names(const uint8_t *body, size_t size) {
+    size_t at = 0;
+    int64_t count = 0;
+    for (; at < size; count++) {
+        at += 1 + (size_t)body[at];
+    }
+    return at == size ? count : -1;
 }
 
 /* 6 to 10 and 16; fills the tables. */
@@ -291,15 +308,11 @@ static uint32_t balance(enum plain_rule rule, uint32_t edges, const int64_t n[],
 typedef uint32_t unseen_of(const struct sheet *, const uint16_t[], const uint8_t[], struct place *);
 typedef void sums_of(struct sheet, const uint16_t[], const uint8_t[], const int64_t[], int64_t[]);
 
-/* 1 to 10 and 16, the edges that part no measured pair, 11 to 13; then fills the lengths and the sums. */
-static uint32_t weigh(const uint8_t *bytes, size_t length, unseen_of *unseen, sums_of *sums_by, struct sheet *s,
-                      int64_t n[], int64_t sums[], struct place *place) {
+/* 6 to 10 and 16, the edges that part no measured pair, 11 to 13; then fills the parents, the lengths and the sums. */
+static uint32_t weigh_tables(unseen_of *unseen, sums_of *sums_by, const struct sheet *s, uint8_t parent[], int64_t n[],
+                             int64_t sums[], struct place *place) {
     uint16_t d[MAX_N * MAX_N];
-    uint8_t parent[MAX_V];
-    uint32_t number = read_form(3, bytes, length, s, place);
-    if (number == 0) {
-        number = read_front(s, d, parent, place);
-    }
+    uint32_t number = read_front(s, d, parent, place);
     if (number == 0) {
         number = unseen(s, d, parent, place);
     }
@@ -310,6 +323,14 @@ static uint32_t weigh(const uint8_t *bytes, size_t length, unseen_of *unseen, su
         sums_by(*s, d, parent, n, sums);
     }
     return number;
+}
+
+/* 1 to 5 before those. */
+static uint32_t weigh(const uint8_t *bytes, size_t length, unseen_of *unseen, sums_of *sums_by, struct sheet *s,
+                      int64_t n[], int64_t sums[], struct place *place) {
+    uint8_t parent[MAX_V];
+    uint32_t number = read_form(3, bytes, length, s, place);
+    return number != 0 ? number : weigh_tables(unseen, sums_by, s, parent, n, sums, place);
 }
 
 static uint32_t verdict(enum plain_rule rule, const uint8_t *bytes, size_t length, unseen_of *unseen, sums_of *sums_by,
@@ -394,5 +415,28 @@ uint32_t plain_unfitted_line(const uint8_t *bytes, size_t length, char line[PLAI
             number = 26;
         }
     }
+    return write_line(number, &place, line);
+}
+
+uint32_t plain_named_line(const uint8_t *bytes, size_t length, plain_names_of *names_by, struct plain_named *out,
+                          char line[PLAIN_LINE]) {
+    struct sheet s = {0};
+    struct place place = {0};
+    int64_t sums[MAX_V];
+    uint32_t number = read_form(4, bytes, length, &s, &place);
+    if (number == 0) {
+        number = names_by(s.names, s.name_bytes);
+    }
+    if (number == 0) {
+        number = weigh_tables(pass_unseen, pass, &s, out->parents, out->numerators, sums, &place);
+    }
+    if (number == 0) {
+        number = balance(PLAIN, s.k, out->numerators, sums, &place);
+    }
+    out->n = s.n;
+    out->edges = s.k;
+    out->denominator = s.d;
+    out->names = s.names;
+    out->name_bytes = s.name_bytes;
     return write_line(number, &place, line);
 }

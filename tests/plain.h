@@ -30,4 +30,21 @@ struct plain_zeros plain_zeros(const uint8_t *sheet, size_t length);
 /* The number and the line of a sheet without lengths, that is to be fitted directly. */
 uint32_t plain_unfitted_line(const uint8_t *sheet, size_t length, char line[PLAIN_LINE]);
 
+/* How many names the body of a names record has, of any length each; -1 where they do not end with it. */
+int64_t plain_count_names(const uint8_t *body, size_t size);
+
+/* One pass over a sheet with names, which has a record more: the number and the line, and of an accepted one what it holds.
+ * The names are judged by `names_by`, which gives 28 or 0. */
+enum { PLAIN_VERTICES = 126 };
+struct plain_named {
+    uint32_t n, edges, denominator;
+    const uint8_t *names;
+    size_t name_bytes;
+    uint8_t parents[PLAIN_VERTICES];
+    int64_t numerators[PLAIN_VERTICES];
+};
+typedef uint32_t plain_names_of(const uint8_t *body, size_t size);
+uint32_t plain_named_line(const uint8_t *sheet, size_t length, plain_names_of *names_by, struct plain_named *out,
+                          char line[PLAIN_LINE]);
+
 #endif

@@ -6,6 +6,7 @@ from collections import namedtuple
 from fractions import Fraction
 
 MAX_SHEET = 5187
+MAX_NAMED = MAX_SHEET + 6 + 11 * 64  # with names: a record more
 MISSING = 65535  # in a matrix: nobody measured this pair
 
 
@@ -184,10 +185,19 @@ def sheet(n, distances, parents, denominator, numerators):
             + record(3, struct.pack("<IH", denominator, len(numerators)) + b"".join(struct.pack("<q", x) for x in numerators)))
 
 
-def read_records(data, kinds):
+def names_in(body):
+    """The names of a names record, of any length each; nothing where they do not end with the body."""
+    names, at = [], 0
+    while at < len(body):
+        names.append(body[at + 1:at + 1 + body[at]])
+        at += 1 + body[at]
+    return names if at == len(body) else None
+
+
+def read_records(data, kinds, most=MAX_SHEET):
     """1 to 5, or the bodies of the records of these kinds. The place of 2, 3 and 4 is the record's first byte; that of
-    5 is the first byte that no record has."""
-    if len(data) > MAX_SHEET:
+    5 is the first byte that no record has. Names must be as many as the matrix has strains, where there is one."""
+    if len(data) > most:
         return (1,), None
     at, bodies = 0, []
     for kind in kinds:
@@ -199,7 +209,7 @@ def read_records(data, kinds):
         if found != kind:
             return (3, "byte", at), None
         body = data[at + 6:at + 6 + size]
-        if size < (2, 4, 6)[kind - 1]:
+        if size < {1: 2, 2: 4, 3: 6, 5: 0}[kind]:
             return (4, "byte", at), None
         if kind == 1:
             n, = struct.unpack_from("<H", body)
@@ -209,9 +219,13 @@ def read_records(data, kinds):
             _, v = struct.unpack_from("<HH", body)
             if v == 0 or size != 4 + v - 1:
                 return (4, "byte", at), None
-        else:
+        elif kind == 3:
             _, k = struct.unpack_from("<IH", body)
             if size != 6 + 8 * k:
+                return (4, "byte", at), None
+        else:
+            names = names_in(body)
+            if names is None or bodies and len(names) != struct.unpack_from("<H", bodies[0])[0]:
                 return (4, "byte", at), None
         bodies.append(body)
         at += 6 + size
@@ -228,21 +242,26 @@ def read_front(first, second):
     return n, distances, tree_n, list(second[4:])
 
 
+def fields_of(first, second, third):
+    """What the matrix, the tree and the lengths hold."""
+    denominator, k = struct.unpack_from("<IH", third)
+    numerators = list(struct.unpack_from("<%dq" % k, third, 6))
+    return (*read_front(first, second), denominator, numerators)
+
+
 def read_sheet(data):
     """A refusal, or the fields of the three records."""
     answer, bodies = read_records(data, (1, 2, 3))
-    if answer:
-        return answer, None
-    first, second, third = bodies
-    denominator, k = struct.unpack_from("<IH", third)
-    numerators = list(struct.unpack_from("<%dq" % k, third, 6))
-    return PASS, (*read_front(first, second), denominator, numerators)
+    return (answer, None) if answer else (PASS, fields_of(*bodies))
 
 
 def sheet_answer(data, rule=PLAIN):
     answer, fields = read_sheet(data)
-    if answer:
-        return answer
+    return answer or fields_answer(fields, rule)
+
+
+def fields_answer(fields, rule=PLAIN):
+    """The tests of a sheet from 6 on."""
     n, distances, tree_n, parents, denominator, numerators = fields
     answer = matrix_answer(n, distances)
     if answer:
