@@ -1,3 +1,4 @@
 pub mod Runs
 pub mod Lengths
+pub mod Thousandths
 pub mod Unique
