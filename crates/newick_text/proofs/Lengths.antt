@@ -14,7 +14,7 @@ use Rattle.digits.proofs.Reading.{both-true}
 use Rattle.newick_text.specs.Length.{signSize, wholeSize, pointAt, needless, magnitudeOf, lengthSize, lengthThere, isLength, valueOf}
 use Rattle.newick_text.proofs.Runs.{run-append, run-within, run-behind}
 
-sign-one : (l : List ℕ) → signSize l ≤ 1
+pub sign-one : (l : List ℕ) → signSize l ≤ 1
 sign-one l = go (eqb (getD l 0 0) 45)
   where
     go : (b : Bool) → cond b 1 0 ≤ 1
