@@ -4,7 +4,7 @@ use mathlib.Core.Bool.{Bool, true, false, cond}
 use mathlib.Core.List.{List, [], _∷_, _++_}
 use Prim.Native.Nat.{ℕ, zero, suc, _+_, _≤_, _<_}
 use native.Mathlib.Omega.{arith}
-use lib.ListN.{length, getD, take, drop}
+use lib.ListN.{length, getD, take, drop, take-append-drop}
 use lib.Seq.{take-at, drop-at}
 use Rattle.digits.specs.Digits.{run, numberFrom, digitOf}
 
@@ -39,6 +39,10 @@ module _ (p : ℕ → Bool) where
       go : (b : Bool) → p x ≡ b → run p (drop (run p xs) xs) ≡ 0 → run p (drop (cond b (suc (run p xs)) 0) (x ∷ xs)) ≡ 0
       go true e h = h
       go false e h = run-none (x ∷ xs) e
+
+  -- the run by itself
+  pub run-take : (l : List ℕ) → run p (take (run p l) l) ≡ run p l
+  run-take l = sym (run-append (take (run p l) l) (drop (run p l) l) (run-behind l)) ∙ ap (run p) (take-append-drop (run p l) l)
 
 -- two texts cut at the same place
 pub append-same : (a b c d : List ℕ) → length a ≡ length b → a ++ c ≡ b ++ d → (a ≡ b) × (c ≡ d)

@@ -30,9 +30,9 @@ name-told n h =
     let b = both-true (leb (length n) maxName) _ (a .1) in
     record { some-byte = leb-true 1 (length n) (a .0); few = leb-true (length n) maxName (b .0); all = eqb-true _ _ (b .1) }
 
--- a name ends at a byte that stands in none
-pub name-ends : (n : List ℕ) (b : ℕ) (k : List ℕ) → isName n ≡ true → isNameByte b ≡ false → run isNameByte (n ++ (b ∷ k)) ≡ length n
-name-ends n b k h e = run-append isNameByte n (b ∷ k) (run-none isNameByte (b ∷ k) e) ∙ name-told n h .all
+-- a name ends where no byte of a name follows
+pub name-ends : (n k : List ℕ) → isName n ≡ true → run isNameByte k ≡ 0 → run isNameByte (n ++ k) ≡ length n
+name-ends n k h e = run-append isNameByte n k e ∙ name-told n h .all
 
 no-colon : isNameByte 58 ≡ false
 unfolding isNameByte
@@ -42,14 +42,15 @@ no-open : isNameByte 40 ≡ false
 unfolding isNameByte
 no-open = refl
 
-pub name-colon : (n k : List ℕ) → isName n ≡ true → run isNameByte (n ++ (58 ∷ k)) ≡ length n
-name-colon n k h = name-ends n 58 k h no-colon
+-- a colon ends a name
+pub colon-ends : (k : List ℕ) → run isNameByte (58 ∷ k) ≡ 0
+colon-ends k = run-none isNameByte (58 ∷ k) no-colon
 
-same-name : (n m k l : List ℕ) → isName n ≡ true → isName m ≡ true → n ++ (58 ∷ k) ≡ m ++ (58 ∷ l) → (n ≡ m) × (k ≡ l)
-same-name n m k l h i e =
-    let s = append-same n m (58 ∷ k) (58 ∷ l) (sym (name-colon n k h) ∙ ap (run isNameByte) e ∙ name-colon m l i) e in
-    let z = s .1 in
-    (s .0, cc)
+pub name-colon : (n k : List ℕ) → isName n ≡ true → run isNameByte (n ++ (58 ∷ k)) ≡ length n
+name-colon n k h = name-ends n (58 ∷ k) h (colon-ends k)
+
+pub same-name : (n m k l : List ℕ) → isName n ≡ true → isName m ≡ true → run isNameByte k ≡ 0 → run isNameByte l ≡ 0 → n ++ k ≡ m ++ l → (n ≡ m) × (k ≡ l)
+same-name n m k l h i p q e = append-same n m k l (sym (name-ends n k h p) ∙ ap (run isNameByte) e ∙ name-ends m l i q) e
 
 -- no name begins with a bracket
 pub no-bracket : (n k l : List ℕ) → isName n ≡ true → n ++ k ≡ 40 ∷ l → ⊥
@@ -77,24 +78,25 @@ row-stops (some t l r) k = refl
 mutual
   unfolding textThen Formed
 
-  pub same-tree : (t u : Tree) (m n : ℕ) (k l : List ℕ) → Formed t m → Formed u n → textThen t (58 ∷ k) ≡ textThen u (58 ∷ l) → (t ≡ u) × (k ≡ l)
-  same-tree (leaf a) (leaf b) m n k l f g e = let h = same-name a b k l f g e in (ap leaf (h .0), h .1)
-  same-tree (leaf a) (node none) m n k l f g e = absurd (g .1)
-  same-tree (leaf a) (node (some u c q)) m n k l f g e = absurd (row-bracket u c q (58 ∷ l) a (58 ∷ k) f e)
-  same-tree (node none) (leaf b) m n k l f g e = absurd (f .1)
-  same-tree (node (some t c r)) (leaf b) m n k l f g e = absurd (row-bracket t c r (58 ∷ k) b (58 ∷ l) g (sym e))
-  same-tree (node r) (node q) m n k l f g e =
-      let h = same-row r q (m - 1) (n - 1) 40 (58 ∷ k) (58 ∷ l) (f .2) (g .2) (λ z. omega (arith, z)) e in
-      let z = h .1 in
-      (ap node (h .0), cc)
+  pub same-tree : (t u : Tree) (m n : ℕ) (k l : List ℕ) → Formed t m → Formed u n → run isNameByte k ≡ 0 → run isNameByte l ≡ 0 → textThen t k ≡ textThen u l → (t ≡ u) × (k ≡ l)
+  same-tree (leaf a) (leaf b) m n k l f g p q e = let h = same-name a b k l f g p q e in (ap leaf (h .0), h .1)
+  same-tree (leaf a) (node none) m n k l f g p q e = absurd (g .1)
+  same-tree (leaf a) (node (some u c r)) m n k l f g p q e = absurd (row-bracket u c r l a k f e)
+  same-tree (node none) (leaf b) m n k l f g p q e = absurd (f .1)
+  same-tree (node (some t c r)) (leaf b) m n k l f g p q e = absurd (row-bracket t c r k b l g (sym e))
+  same-tree (node r) (node x) m n k l f g p q e =
+      let h = same-row r x (m - 1) (n - 1) 40 k l (f .2) (g .2) (λ z. omega (arith, z)) e in
+      (ap node (h .0), h .1)
 
   pub same-row : (r q : Row) (m n lead : ℕ) (k l : List ℕ) → RowFormed r m → RowFormed q n → (lead ≡ 41 → ⊥) → rowThen r lead k ≡ rowThen q lead l → (r ≡ q) × (k ≡ l)
   same-row none none m n lead k l f g d e = (refl, cc)
   same-row none (some u b q) m n lead k l f g d e = absurd (d (cc))
   same-row (some t a r) none m n lead k l f g d e = absurd (d (cc))
   same-row (some t a r) (some u b q) m n lead k l f g d e =
-      let h = same-tree t u m n (a ++ rowThen r 44 k) (b ++ rowThen q 44 l) (f .0) (g .0) (cc) in
-      let i = append-same a b (rowThen r 44 k) (rowThen q 44 l) (same-length a b (rowThen r 44 k) (rowThen q 44 l) (f .1) (g .1) (row-stops r k) (row-stops q l) (h .1)) (h .1) in
+      let h = same-tree t u m n (58 ∷ (a ++ rowThen r 44 k)) (58 ∷ (b ++ rowThen q 44 l)) (f .0) (g .0) (colon-ends _) (colon-ends _) (cc) in
+      let z = h .1 in
+      let v : a ++ rowThen r 44 k ≡ b ++ rowThen q 44 l = cc in
+      let i = append-same a b (rowThen r 44 k) (rowThen q 44 l) (same-length a b (rowThen r 44 k) (rowThen q 44 l) (f .1) (g .1) (row-stops r k) (row-stops q l) v) v in
       let j = same-row r q m n 44 k l (f .2) (g .2) (λ z. omega (arith, z)) (i .1) in
       let x = h .0 in
       let y = i .0 in
