@@ -2,3 +2,5 @@ pub mod Runs
 pub mod Lengths
 pub mod Thousandths
 pub mod Unique
+pub mod Counting
+pub mod Using
