@@ -4,3 +4,4 @@ pub mod Thousandths
 pub mod Unique
 pub mod Counting
 pub mod Using
+pub mod Filling
