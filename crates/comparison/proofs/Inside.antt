@@ -11,7 +11,7 @@ use Rattle.verdict.specs.declared.Place.the-variants.{Byte}
 use Rattle.verdict.specs.declared.Rule.the-variants.{Plain}
 use Rattle.verdict.specs.Answer.{Answer, pass, test, testAt, _orElse_}
 use Rattle.matrix.specs.Place.{pairCount}
-use Rattle.records.specs.Form.{maxSheet, bodyAt, sizeAt, endAt, headCut, bodyCut, kindAt, countAt, countsSize, countsOut, bodyLength, kindOf, startOf, recordTests, recordsTests, formTests}
+use Rattle.records.specs.Form.{maxSheet, bodyAt, sizeAt, endAt, headCut, bodyCut, kindAt, countAt, countsSize, bodyOut, bodyLength, kindOf, startOf, recordTests, recordsTests, formTests}
 use Rattle.reading.specs.Holds.{strainsOf, edgesOf}
 use Rattle.reading.specs.Tests.{sheetTests}
 use Rattle.sheet.proofs.Laws.{orElse-pass, testAt-pass, sheet-form}
@@ -36,7 +36,7 @@ module _ (s : List ℕ) where
   -- of a record that passes: it ends within the sheet, and its counts are right
   module _ (at kind : ℕ) (z : recordTests s at kind ≡ pass) where
     abbrev of-kind : Answer
-    of-kind = testAt 3 (Byte at) (not (eqb (kindAt s at) kind)) orElse testAt 4 (Byte at) (countsOut s at kind)
+    of-kind = testAt 3 (Byte at) (not (eqb (kindAt s at) kind)) orElse testAt 4 (Byte at) (bodyOut s at kind)
 
     of-body : (testAt 2 (Byte at) (bodyCut s at) orElse of-kind) ≡ pass
     of-body = orElse-pass (testAt 2 (Byte at) (headCut s at)) (testAt 2 (Byte at) (bodyCut s at) orElse of-kind) z .1
@@ -44,10 +44,10 @@ module _ (s : List ℕ) where
     body-there : endAt s at ≤ length s
     body-there = ltb-false (length s) (endAt s at) (testAt-pass 2 (Byte at) (bodyCut s at) (orElse-pass (testAt 2 (Byte at) (bodyCut s at)) of-kind of-body .0))
 
-    counts-right : countsOut s at kind ≡ false
+    counts-right : bodyOut s at kind ≡ false
     counts-right =
-        testAt-pass 4 (Byte at) (countsOut s at kind)
-        (orElse-pass (testAt 3 (Byte at) (not (eqb (kindAt s at) kind))) (testAt 4 (Byte at) (countsOut s at kind)) (orElse-pass (testAt 2 (Byte at) (bodyCut s at)) of-kind of-body .1) .1)
+        testAt-pass 4 (Byte at) (bodyOut s at kind)
+        (orElse-pass (testAt 3 (Byte at) (not (eqb (kindAt s at) kind))) (testAt 4 (Byte at) (bodyOut s at kind)) (orElse-pass (testAt 2 (Byte at) (bodyCut s at)) of-kind of-body .1) .1)
 
   sized : (n m : ℕ) → not (eqb n m) ≡ false → n ≡ m
   sized n m e = eqb-true n m (not-false (eqb n m) e)

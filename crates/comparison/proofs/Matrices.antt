@@ -9,7 +9,8 @@ use Rattle.matrix.specs.Place.{pairCount}
 use Rattle.reading.specs.Holds.{strainsOf, rowAt, distancesOf}
 use Rattle.sheet.proofs.Laws.{same-matrix, same-rows}
 use Rattle.comparison.specs.Matrices.{sameMatrix, SameRows}
-use Rattle.comparison.proofs.Laws.{same-self, one-matrix}
+use Rattle.comparison.proofs.Laws.{one-matrix}
+use Rattle.digits.proofs.Comparing.{same-self}
 
 -- ---- one matrix
 module _ (s t : List ℕ) where

@@ -20,19 +20,19 @@ pub enum Kind {
 fn kind_of(word: &[u8]) -> Kind
     ensures { λ r. ⌜ KindOf (now (word .entry)) r ⌝ }
 {
-    if desk_words::same(word, b"post") {
+    if digits::same(word, b"post") {
         return Kind::Post;
     }
-    if desk_words::same(word, b"propose") {
+    if digits::same(word, b"propose") {
         return Kind::Propose;
     }
-    if desk_words::same(word, b"correct") {
+    if digits::same(word, b"correct") {
         return Kind::Correct;
     }
-    if desk_words::same(word, b"withdraw") {
+    if digits::same(word, b"withdraw") {
         return Kind::Withdraw;
     }
-    if desk_words::same(word, b"report") {
+    if digits::same(word, b"report") {
         return Kind::Report;
     }
     Kind::Wrong

@@ -78,7 +78,7 @@ fn parents_of(line: &[u8], at: usize, numbers: &mut [u16], parents: &mut [u8]) -
     let slash = desk_words::word_at(line, at);
     let start = slash.start;
     let end = slash.end;
-    if !desk_words::same(&line[start..end], b"/") {
+    if !digits::same(&line[start..end], b"/") {
         return Back {
             found: false,
             edges: 0,

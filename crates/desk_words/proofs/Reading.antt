@@ -2,7 +2,7 @@
 -- (`words-behind`), and there is none exactly where no letter stands there (`none-left`). Then what is read as a number: of the letters at a
 -- place (`no-digits`, `word-goes-on`, `all-digits`), of a word (`number-read`), of a word that may have a minus (`minus-read`, `plain-read`).
 use mathlib.Core.Path.{_≡_, refl, sym, _∙_, ap, ap₂, subst}
-use mathlib.Core.Bool.{Bool, true, false, cond, _&&_, true≢false}
+use mathlib.Core.Bool.{Bool, true, false, cond, true≢false}
 use mathlib.Core.List.{List, [], _∷_}
 use Prim.Native.Nat.{ℕ, zero, suc, _+_, _-_, _≤_, _<_}
 use native.Mathlib.Numerals.{add-one}
@@ -11,9 +11,9 @@ use native.Mathlib.Decide.{decLt}
 use borrow.Author.Tests.{eq-eqb, ne-eqb, eqb-true, eqb-false}
 use lib.Dec.{eqb}
 use lib.IntN.{ℤ, pos, negℤ}
-use lib.ListN.{length, getD, take, drop, drop-of-length-le}
+use lib.ListN.{length, getD, take, drop}
 use lib.Seq.{slice, drop-drop, drop-cons, getD-take, getD-drop}
-use Rattle.digits.specs.Digits.{run, isBlank, isDigit, atMost, numberFrom, same}
+use Rattle.digits.specs.Digits.{run, isBlank, isDigit, atMost, numberFrom}
 use Rattle.exact.proofs.Decide.{by-cases}
 use Rattle.lengths.specs.Limits.{maxNumerator}
 use Rattle.digits.proofs.Reading.{slice-is, inside, low-cut, high-cut}
@@ -224,33 +224,6 @@ module _ (s : List ℕ) (at : ℕ) (r : Number) where
         within-is : (b : Bool) → r .end ≤ length s → cond b (r .end) start ≤ length s
         within-is true w = w
         within-is false w = h
-
--- ---- two texts compared
-pub same-longer : (a b : List ℕ) → (length a ≡ length b → ⊥) → false ≡ same a b
-unfolding same
-same-longer [] [] n = absurd (n refl)
-same-longer [] (y ∷ ys) n = refl
-same-longer (x ∷ xs) [] n = refl
-same-longer (x ∷ xs) (y ∷ ys) n = let ih = same-longer xs ys (λ e. n (ap suc e)) in sym (ap (_&&_ (eqb x y)) (sym ih) ∙ and-no (eqb x y))
-  where
-    and-no : (q : Bool) → (q && false) ≡ false
-    and-no true = refl
-    and-no false = refl
-
-module _ (a b : List ℕ) (k : ℕ) (h : k < length a) (g : k < length b) where
-  turn : same (drop k a) (drop k b) ≡ (eqb (getD a k 0) (getD b k 0) && same (drop (suc k) a) (drop (suc k) b))
-  unfolding same
-  turn = ap₂ same (drop-cons a k 0 h) (drop-cons b k 0 g)
-
-  pub same-on : getD a k 0 ≡ getD b k 0 → same (drop k a) (drop k b) ≡ same a b → same (drop (k + 1) a) (drop (k + 1) b) ≡ same a b
-  same-on e t = rw add-one (sym (ap (λ (q : Bool). q && same (drop (suc k) a) (drop (suc k) b)) (eq-eqb (getD a k 0) (getD b k 0) e)) ∙ sym turn ∙ t)
-
-  pub same-off : (getD a k 0 ≡ getD b k 0 → ⊥) → same (drop k a) (drop k b) ≡ same a b → false ≡ same a b
-  same-off n t = sym (ap (λ (q : Bool). q && same (drop (suc k) a) (drop (suc k) b)) (ne-eqb (getD a k 0) (getD b k 0) n)) ∙ sym turn ∙ t
-
-pub same-all : (a b : List ℕ) (k : ℕ) → length a ≤ k → length b ≤ k → same (drop k a) (drop k b) ≡ same a b → true ≡ same a b
-unfolding same
-same-all a b k h g t = sym (ap₂ same (drop-of-length-le a h) (drop-of-length-le b g)) ∙ t
 
 -- ---- the same, from the place that the blanks' end was found at
 module _ (s : List ℕ) (at start : ℕ) (r : Number) (e : start ≡ startAt s at) where

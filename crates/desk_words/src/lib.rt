@@ -4,27 +4,10 @@ ghost use mathlib.Core.Path.{_≡_};
 ghost use Prim.Native.Nat.{_+_, _≤_, _<_};
 ghost use lib.IntN.{ℤ, pos};
 ghost use lib.ListN.{length, drop};
-ghost use Rattle.digits.specs.Digits.{run, same};
+ghost use Rattle.digits.specs.Digits.{run};
 ghost use Rattle.desk_text.specs.Words.{isLetter, wordOver, words, isNumber, valueOf, isSigned, signedOf};
 ghost use Rattle.desk_text.specs.Fields.{cutTo, cutMagnitude, cutNumerator};
 ghost use Rattle.desk_words.specs.Reads.{DigitsRead, WordRead, NumberRead, withSign, signedFrom, SignedRead, TakenIn};
-
-// Whether two texts are the same.
-pub fn same(a: &[u8], b: &[u8]) -> bool
-    ensures { λ r. ⌜ r ≡ same (now (a .entry)) (now (b .entry)) ⌝ }
-{
-    if a.len() != b.len() {
-        return false;
-    }
-    let mut k = 0;
-    while k < a.len() {
-        if a[k] != b[k] {
-            return false;
-        }
-        k += 1;
-    }
-    true
-}
 
 // Whether no word goes on at a place: the line ends there, or a blank stands there.
 fn word_over(line: &[u8], at: usize) -> bool

@@ -1,10 +1,10 @@
-// Blanks, and numbers read from the bytes of a text. A number above every field's limit is read as one such number, so that digits without
+// Texts compared, blanks, and numbers read from the bytes of a text. A number above every field's limit is read as one such number, so that digits without
 // end do no harm: no count and no distance is ever taken modulo anything.
 ghost use mathlib.Core.Path.{_≡_};
 ghost use Prim.Native.Nat.{_+_, _*_, _≤_};
 ghost use lib.ListN.{length, getD, drop};
 ghost use lib.Seq.{slice};
-ghost use Rattle.digits.specs.Digits.{run, isBlank, isDigit, digitOf, most, atMost, numberFrom};
+ghost use Rattle.digits.specs.Digits.{run, same, isBlank, isDigit, digitOf, most, atMost, numberFrom};
 
 // What a number is cut at.
 const MOST: u64 = 1000000000000000;
@@ -17,6 +17,23 @@ pub fn byte_at(text: &[u8], k: usize) -> u8
         return text[k];
     }
     0
+}
+
+// Whether two texts are the same.
+pub fn same(a: &[u8], b: &[u8]) -> bool
+    ensures { λ r. ⌜ r ≡ same (now (a .entry)) (now (b .entry)) ⌝ }
+{
+    if a.len() != b.len() {
+        return false;
+    }
+    let mut k = 0;
+    while k < a.len() {
+        if a[k] != b[k] {
+            return false;
+        }
+        k += 1;
+    }
+    true
 }
 
 // Whether a byte is a blank.

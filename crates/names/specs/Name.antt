@@ -5,10 +5,8 @@ use Prim.Native.Nat.{ℕ}
 use lib.Dec.{eqb, leb}
 use lib.ListN.{length}
 use Rattle.digits.specs.Digits.{run, isDigit}
-
--- the most bytes of a name
-abbrev pub maxName : ℕ
-maxName = 10
+-- the most bytes of a name stand with the records that have room for them
+pub use Rattle.records.specs.Names.{maxName}
 
 -- a letter
 abbrev pub isLetter : ℕ → Bool

@@ -37,8 +37,12 @@ both-pass count s z =
     orElse-pass (test 8 (strainsDiffer s)) (bothTests count N ds (parentsOf s)) r .1
 
 -- where lengths follow, also together
-pub pair-posted : (s : List ℕ) → pairTests 3 s ≡ pass → Posted (strainsOf s) (distancesOf s) (parentsOf s)
-pair-posted s z = →posted (strainsOf s) (distancesOf s) (parentsOf s) (both-pass 3 s z)
+pub pair-posted : (count : ℕ) (s : List ℕ) → 2 < count → pairTests count s ≡ pass → Posted (strainsOf s) (distancesOf s) (parentsOf s)
+pair-posted count s l z =
+    let N = strainsOf s in
+    let ds = distancesOf s in
+    let ps = parentsOf s in
+    →posted N ds ps (sym (ap (λ (b : Bool). cond b (postedTests N ds ps) (shapeTests N ds ps)) (lt-ltb 2 count l)) ∙ both-pass count s z)
 
 module _ (count : ℕ) (s : List ℕ) (z : pairTests count s ≡ pass) where
   pub pair-shaped : Shaped (strainsOf s) (distancesOf s) (parentsOf s)

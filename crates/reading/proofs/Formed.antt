@@ -18,9 +18,9 @@ use Rattle.matrix.proofs.Places.{pairs-few}
 use Rattle.tree_theory.specs.Tests.{treeTests}
 use Rattle.fit_theory.specs.Tests.{shapeTests, seenTests, postedTests}
 use Rattle.endian.specs.Bytes.{number}
-use Rattle.records.specs.Form.{maxSheet, startOf, formTests}
+use Rattle.records.specs.Form.{maxNamed, startOf, formTests}
 use Rattle.records.proofs.InTurn.{first-start}
-use Rattle.records.proofs.Formed.{form-short, record-ends, record-long}
+use Rattle.records.proofs.Formed.{form-bounded, record-ends, record-long}
 use Rattle.records.proofs.Decoding.{front-is, part-is}
 use Rattle.reading.specs.Holds.{strainsOf, rowAt, distancesOf, verticesOf, parentsOf}
 use Rattle.reading.specs.Tests.{bothTests, pairTests}
@@ -32,12 +32,12 @@ pub record Fronted (s : List ℕ) (t l : ℕ) : Type 0 where
   pub matrix : t ≡ 8 + number 2 s 6 * (number 2 s 6 - 1)
   pub tree : l ≡ t + 10 + (number 2 s (t + 6 + 2) - 1)
   pub there : l ≤ length s
-  pub short : length s ≤ maxSheet
+  pub short : length s ≤ maxNamed
 
 module _ (count : ℕ) (s : List ℕ) (z : formTests count s ≡ pass) where
   matrix-long : 1 ≤ count → startOf s 1 ≡ 8 + number 2 s 6 * (number 2 s 6 - 1)
   matrix-long h =
-      record-long count s z 0 (omega arith)
+      record-long count s z 0 (omega arith) (omega arith)
       ∙ ap (λ (at : ℕ). at + 6 + (2 + number 2 s (at + 6 + 0) * (number 2 s (at + 6 + 0) - 1))) (first-start s) ∙ omega arith
 
   fronted-at : 2 ≤ count → Fronted s (startOf s 1) (startOf s 2)
@@ -45,17 +45,17 @@ module _ (count : ℕ) (s : List ℕ) (z : formTests count s ≡ pass) where
     tree-at = refl;
     end-at = refl;
     matrix = matrix-long (omega arith);
-    tree = omega (arith, record-long count s z 1 (omega arith));
+    tree = omega (arith, record-long count s z 1 (omega arith) (omega arith));
     there = record-ends count s z 1 (omega arith);
-    short = form-short count s z;
+    short = form-bounded count s z;
   }
 
   pub fronted : 2 ≤ count → (t l : ℕ) → t ≡ startOf s 1 → l ≡ startOf s 2 → Fronted s t l
   fronted h t l e f = rw (e, f) (fronted-at h)
 
   -- the lengths, which start at l
-  pub lengths-end : 3 ≤ count → (l : ℕ) → l ≡ startOf s 2 → (l + 12 + 8 * number 2 s (l + 6 + 4) ≤ length s) × (length s ≤ maxSheet)
-  lengths-end h l e = rw e (omega (arith, record-long count s z 2 (omega arith), record-ends count s z 2 (omega arith)), form-short count s z)
+  pub lengths-end : 3 ≤ count → (l : ℕ) → l ≡ startOf s 2 → (l + 12 + 8 * number 2 s (l + 6 + 4) ≤ length s) × (length s ≤ maxNamed)
+  lengths-end h l e = rw e (omega (arith, record-long count s z 2 (omega arith) (omega arith), record-ends count s z 2 (omega arith)), form-bounded count s z)
 
 -- ---- what was read
 module _ {s : List ℕ} {t l : ℕ} (w : Fronted s t l) where

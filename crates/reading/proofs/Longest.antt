@@ -24,7 +24,7 @@ ends-at : (s : List ℕ) → formTests 3 s ≡ pass
     → length s ≡ 8 + strainsOf s * (strainsOf s - 1) + (10 + (verticesOf s - 1)) + (12 + 8 * edgesOf s)
 ends-at s z =
     let w = fronted 3 s z (omega arith) (startOf s 1) (startOf s 2) refl refl in
-    omega (arith, w .matrix, w .tree, form-whole 3 s z, record-ends 3 s z 2 (omega arith), record-long 3 s z 2 (omega arith))
+    omega (arith, w .matrix, w .tree, form-whole 3 s z, record-ends 3 s z 2 (omega arith), record-long 3 s z 2 (omega arith) (omega arith))
 
 pub just-so : (s : List ℕ) → formTests 3 s ≡ pass → strainsOf s ≡ maxStrains → verticesOf s ≡ maxVertices → edgesOf s ≡ maxEdges → length s ≡ maxSheet
 just-so s z n v k = ends-at s z ∙ rw (n, v, k)

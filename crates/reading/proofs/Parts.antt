@@ -1,11 +1,11 @@
--- For a caller of `read`: what its parts are, where it accepts. `read-parts` serves a sheet of two or three records, `read-lengths` one of
--- three.
+-- For a caller of `read`: what its parts are, where it accepts. `read-parts` serves a sheet of any count, `read-posted` and `read-lengths`
+-- one with lengths, that is of three records or four.
 use mathlib.Core.Path.{_≡_, refl, sym, ap, ap₂, _∙_}
-use mathlib.Core.Bool.{false}
+use mathlib.Core.Bool.{Bool, false, cond, not, _&&_}
 use mathlib.Core.List.{List}
-use Prim.Native.Nat.{ℕ, _-_, _≤_}
+use Prim.Native.Nat.{ℕ, _-_, _<_, _≤_}
 use native.Mathlib.Omega.{arith}
-use borrow.Author.Tests.{eqb-true, not-false}
+use borrow.Author.Tests.{lt-ltb, eqb-true, not-false}
 use lib.Dec.{eqb}
 use lib.IntN.{ℤ, pos}
 use lib.ListN.{length, take, drop}
@@ -97,24 +97,29 @@ module _ (count : ℕ) (s : List ℕ) (z : readTests count s ≡ pass) where
       count = edge-count ∙ parent-count;
     }
 
--- three records
-module _ (s : List ℕ) (z : readTests 3 s ≡ pass) (r : Sheet) (h : Held 3 s r) where
+-- three records or more
+module _ (count : ℕ) (s : List ℕ) (three : 2 < count) (z : readTests count s ≡ pass) (r : Sheet) (h : Held count s r) where
   whole : edgesOf s ≡ verticesOf s - 1
-  whole = eqb-true (edgesOf s) (verticesOf s - 1) (not-false (eqb (edgesOf s) (verticesOf s - 1)) (edges-same 3 s z))
+  whole =
+      let same = eqb (edgesOf s) (verticesOf s - 1) in
+      eqb-true (edgesOf s) (verticesOf s - 1) (not-false same (sym (ap (λ (b : Bool). b && not same) (lt-ltb 2 count three)) ∙ edges-same count s z))
+
+  edges : r .edges ≡ edgesOf s
+  edges = h .edges ∙ ap (λ (b : Bool). cond b (edgesOf s) 0) (lt-ltb 2 count three)
 
   few : r .edges ≤ maxEdges
-  few = omega (arith, h .edges, whole, parents-few 3 s (pair-passes 3 s z))
+  few = omega (arith, edges, whole, parents-few count s (pair-passes count s z))
 
   lent : r .numerators ≡ padded (pos 0) maxEdges (r .edges) (numeratorAt s)
   lent = h .numerators ∙ ap (λ (k : ℕ). padded (pos 0) maxEdges k (numeratorAt s)) (sym (h .edges))
 
   pub lengths : Lengths s r
   lengths = record {
-    denominator = h .denominator;
+    denominator = h .denominator ∙ ap (λ (b : Bool). cond b (denominatorOf s) 0) (lt-ltb 2 count three);
     room = front-there (pos 0) maxEdges (r .edges) (numeratorAt s) (r .numerators) lent few;
     size = front-length (pos 0) maxEdges (r .edges) (numeratorAt s) (r .numerators) lent;
-    numerators = front-is (pos 0) maxEdges (r .edges) (numeratorAt s) (r .numerators) lent ∙ ap (λ (k : ℕ). table k (numeratorAt s)) (h .edges);
-    count = h .edges ∙ whole ∙ parent-count 3 s z;
+    numerators = front-is (pos 0) maxEdges (r .edges) (numeratorAt s) (r .numerators) lent ∙ ap (λ (k : ℕ). table k (numeratorAt s)) edges;
+    count = edges ∙ whole ∙ parent-count count s z;
     few = few;
   }
 
@@ -123,11 +128,11 @@ pub read-parts : (count : ℕ) (s : List ℕ) (r : Sheet) → 2 ≤ count → Sh
 read-parts count s r two a e = let z = accepted count s r a e in parts count s z two r (a .held z)
 
 -- a sheet with lengths: its matrix and tree pass together
-pub read-posted : (s : List ℕ) (r : Sheet) → SheetAnswer 3 s r → r .verdict ≡ Accepted → Posted (strainsOf s) (distancesOf s) (parentsOf s)
-read-posted s r a e = pair-posted s (pair-passes 3 s (accepted 3 s r a e))
+pub read-posted : (count : ℕ) (s : List ℕ) (r : Sheet) → 2 < count → SheetAnswer count s r → r .verdict ≡ Accepted → Posted (strainsOf s) (distancesOf s) (parentsOf s)
+read-posted count s r three a e = pair-posted count s three (pair-passes count s (accepted count s r a e))
 
-pub read-lengths : (s : List ℕ) (r : Sheet) → SheetAnswer 3 s r → r .verdict ≡ Accepted → Lengths s r
-read-lengths s r a e = let z = accepted 3 s r a e in lengths s z r (a .held z)
+pub read-lengths : (count : ℕ) (s : List ℕ) (r : Sheet) → 2 < count → SheetAnswer count s r → r .verdict ≡ Accepted → Lengths s r
+read-lengths count s r three a e = let z = accepted count s r a e in lengths count s three z r (a .held z)
 
 -- ---- what is shown of the parts holds of what the records hold
 pub of-parts : {s : List ℕ} {r : Sheet} → Parts s r → (P : ℕ → List ℕ → List ℕ → Type 0)

@@ -1,9 +1,11 @@
 -- The whole answer to a sheet by its reader's. A reader that refuses has given the whole answer; one that accepts leaves it to what is
 -- asked of the matrix and the tree that it read, and, with lengths, of those.
 use mathlib.Core.Path.{_≡_, refl, sym, ap, ap₂, _∙_}
-use mathlib.Core.Bool.{Bool, true, false, not, _||_}
+use mathlib.Core.Bool.{Bool, true, false, cond, not, _&&_, _||_}
 use mathlib.Core.List.{List}
-use Prim.Native.Nat.{ℕ, _-_}
+use Prim.Native.Nat.{ℕ, _-_, _<_}
+use native.Mathlib.Omega.{arith}
+use borrow.Author.Tests.{lt-ltb}
 use lib.Dec.{eqb, ltb}
 use lib.ListN.{length}
 use Rattle.exact.proofs.Decide.{by-cases}
@@ -17,12 +19,12 @@ use Rattle.verdict.proofs.Answers.{passes, orElse-pass, orElse-assoc, not-pass}
 use Rattle.matrix.specs.Tests.{matrixTests}
 use Rattle.tree_theory.specs.Limits.{maxEdges}
 use Rattle.lengths.specs.Tests.{denominatorOut, numeratorOut, signTests}
-use Rattle.fit_theory.specs.Tests.{proposalTests, sumsTests}
+use Rattle.fit_theory.specs.Tests.{shapeTests, postedTests, proposalTests, sumsTests}
 use Rattle.records.specs.Form.{formTests}
 use Rattle.records.proofs.InTurn.{stays}
 use Rattle.reading.specs.declared.Sheet.{Sheet}
 use Rattle.reading.specs.Holds.{strainsOf, distancesOf, verticesOf, parentsOf, denominatorOf, edgesOf, numeratorsOf}
-use Rattle.reading.specs.Tests.{strainsDiffer, edgesDiffer, bothTests, pairTests, readTests, sheetTests}
+use Rattle.reading.specs.Tests.{strainsDiffer, edgesDiffer, bothTests, pairTests, readTests, heldTests, sheetTests}
 use Rattle.reading.specs.Reads.{SheetAnswer}
 
 -- the answer where the matrix and the tree pass on to a further test
@@ -84,16 +86,44 @@ by-count : (b : Bool) (x : Answer) → (b ≡ true → x ≡ fault 11 Nowhere) �
 by-count true x h n = h refl
 by-count false x h n = absurd (n refl)
 
+-- of three records or four
+module _ (count : ℕ) (three : 2 < count) (rule : Rule) (s : List ℕ) where
+  abbrev proposal : Answer
+  proposal = proposalTests rule (strainsOf s) (distancesOf s) (parentsOf s) (denominatorOf s) (numeratorsOf s)
+
+  in-further : (formTests count s orElse heldTests rule s) ≡ furtherTests count s proposal
+  in-further = let N = strainsOf s in let ds = distancesOf s in let ps = parentsOf s in
+      ap (λ (b : Bool). formTests count s orElse matrixTests N ds orElse test 8 (strainsDiffer s) orElse cond b (postedTests N ds ps) (shapeTests N ds ps) orElse proposal) (sym (lt-ltb 2 count three))
+
+  pub lengths-asked : readTests count s ≡ pass → (formTests count s orElse heldTests rule s) ≡ proposal
+  lengths-asked z = in-further ∙ further-asked count s z proposal
+
+  pub lengths-refused : (readTests count s ≡ pass → ⊥) → (formTests count s orElse heldTests rule s) ≡ readTests count s
+  lengths-refused n =
+      let same : edgesDiffer 3 s ≡ edgesDiffer count s = ap (λ (b : Bool). b && not (eqb (edgesOf s) (verticesOf s - 1))) (sym (lt-ltb 2 count three)) in
+      in-further ∙ refused-by count s proposal
+      (λ z. by-count (edgesDiffer count s) proposal (λ e. first-eleven rule s (same ∙ e)) (λ e. n (read-is count s ∙ ap₂ _orElse_ z e)))
+      n
+
+  -- the same behind a form that stands
+  module _ (form : formTests count s ≡ pass) where
+    behind-form : heldTests rule s ≡ (formTests count s orElse heldTests rule s)
+    behind-form = ap (λ (k : Answer). k orElse heldTests rule s) (sym form)
+
+    pub held-asked : readTests count s ≡ pass → heldTests rule s ≡ proposal
+    held-asked z = behind-form ∙ lengths-asked z
+
+    pub held-refused : (r : Sheet) (q : Refusal) → SheetAnswer count s r → r .verdict ≡ Refused q → refusalOf q ≡ heldTests rule s
+    held-refused r q a e =
+        let told : refusalOf q ≡ readTests count s = sym (ap answerOf e) ∙ a .answer in
+        told ∙ sym (behind-form ∙ lengths-refused (λ z. not-pass q (told ∙ z)))
+
 pub sheet-asked : (rule : Rule) (s : List ℕ) → readTests 3 s ≡ pass
     → sheetTests rule s ≡ proposalTests rule (strainsOf s) (distancesOf s) (parentsOf s) (denominatorOf s) (numeratorsOf s)
-sheet-asked rule s z = further-asked 3 s z (proposalTests rule (strainsOf s) (distancesOf s) (parentsOf s) (denominatorOf s) (numeratorsOf s))
+sheet-asked rule s z = lengths-asked 3 (omega arith) rule s z
 
 pub sheet-refused : (rule : Rule) (s : List ℕ) → (readTests 3 s ≡ pass → ⊥) → sheetTests rule s ≡ readTests 3 s
-sheet-refused rule s n =
-    let x = proposalTests rule (strainsOf s) (distancesOf s) (parentsOf s) (denominatorOf s) (numeratorsOf s) in
-    refused-by 3 s x
-    (λ z. by-count (edgesDiffer 3 s) x (first-eleven rule s) (λ e. n (read-is 3 s ∙ ap₂ _orElse_ z e)))
-    n
+sheet-refused rule s n = lengths-refused 3 (omega arith) rule s n
 
 -- ---- by the reader's answer: a refusal is the whole answer
 pub refused-whole : (rule : Rule) (s : List ℕ) (r : Sheet) (q : Refusal) → SheetAnswer 3 s r → r .verdict ≡ Refused q → refusalOf q ≡ sheetTests rule s

@@ -1,5 +1,6 @@
 // A sheet of bytes, read once. A sheet is three records, one behind the other, and nothing else: the matrix,
-// the tree and the lengths. A sheet without lengths is the first two.
+// the tree and the lengths. A sheet without lengths is the first two; one with names has a fourth, which the
+// form asks its counts and which is not read here.
 use matrix::Matrix;
 use records::Layout;
 use tree::Tree;
@@ -155,8 +156,8 @@ fn held(s: &[u8], count: usize, tree: usize, end: usize) -> Sheet
     }
 }
 
-// What a sheet of so many records holds, three or, without lengths, two: 1 to 11, 16, 26, the first
-// that applies.
+// What a sheet of so many records holds, three, without lengths two, or with names four: 1 to 11, 16, 26,
+// the first that applies. Of four it is what the first three hold.
 pub fn read(s: &[u8], count: usize) -> Sheet
     requires { ⌜ (2 ≤ count) × (count ≤ maxRecords) ⌝ }
     ensures { λ r. ⌜ SheetAnswer count (now (s .entry)) r ⌝ }

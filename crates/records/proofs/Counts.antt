@@ -44,9 +44,6 @@ module _ (s : List ℕ) (at : ℕ) where
     by-vertices : n ≡ countAt s at 2 → 4 ≤ size → not (eqb (size + 1) (4 + n)) ≡ countsOut s at 2
     by-vertices f h = simp (sym e, sym f, le-ltb size 4 h) (behind-vertices size n h)
 
-    by-edges : n ≡ countAt s at 3 → 6 ≤ size → not (eqb size (6 + 8 * n)) ≡ countsOut s at 3
-    by-edges f h = simp (sym e, sym f, le-ltb size 6 h)
-
     -- by the kind
     module _ (kind : ℕ) (f : n ≡ countAt s at kind) (h : countsSize kind ≤ size) where
       pub of-matrix : kind ≡ 1 → not (eqb size (2 + (n * n - n))) ≡ countsOut s at kind
@@ -55,8 +52,8 @@ module _ (s : List ℕ) (at : ℕ) where
       pub of-tree : kind ≡ 2 → not (eqb (size + 1) (4 + n)) ≡ countsOut s at kind
       of-tree k = by-vertices (rw k at f) (rw k at h) ∙ ap (countsOut s at) (sym k)
 
-      pub of-lengths : kind ≡ 3 → not (eqb size (6 + 8 * n)) ≡ countsOut s at kind
-      of-lengths k = by-edges (rw k at f) (rw k at h) ∙ ap (countsOut s at) (sym k)
+      pub of-lengths : (kind ≡ 1 → ⊥) → (kind ≡ 2 → ⊥) → not (eqb size (6 + 8 * n)) ≡ countsOut s at kind
+      of-lengths k l = simp (sym e, sym f, le-ltb size (countsSize kind) h, ne-eqb kind 1 k, ne-eqb kind 2 l)
 
 -- counts that are in order say how long the body is
 pub counted : (s : List ℕ) (at kind : ℕ) → countsOut s at kind ≡ false → sizeAt s at ≡ bodyLength kind (countAt s at kind)

@@ -11,16 +11,15 @@ use lib.Dec.{eqb, ltb}
 use lib.ListN.{length, set}
 use Rattle.exact.specs.Table.{table}
 use Rattle.exact.proofs.Decide.{by-cases}
-use Rattle.verdict.specs.declared.Reason.the-variants.{SheetTooLong, BytesLeft}
-use Rattle.verdict.specs.declared.Place.the-variants.{Nowhere, Byte}
+use Rattle.verdict.specs.declared.Place.the-variants.{Byte}
 use Rattle.verdict.specs.declared.Refusal.{Refusal}
 use Rattle.verdict.specs.declared.Verdict.{Verdict}
 use Rattle.verdict.specs.declared.Verdict.the-variants.{Accepted, Refused}
 use Rattle.verdict.specs.Answer.{Answer, pass, fault, answerOf, refusalOf, testAt, _orElse_}
 use Rattle.verdict.proofs.Answers.{orElse-pass, testAt-pass, not-pass}
 use Rattle.records.specs.declared.Layout.{Layout}
-use Rattle.records.specs.Form.{maxRecords, maxSheet, headSize, kindAt, kindOf, endAt, headCut, bodyCut, countsOut, recordTests, startOf, recordsTests, formTests}
-use Rattle.records.specs.Laid.{maxStarts, LayoutAnswer}
+use Rattle.records.specs.Form.{maxRecords, headSize, kindAt, kindOf, endAt, headCut, bodyCut, bodyOut, recordTests, startOf, recordsTests}
+use Rattle.records.specs.Laid.{maxStarts, Laid}
 use Rattle.records.proofs.Decoding.{Decoding, decode-start, decode-turn, decode-end}
 
 -- ---- one record, by the outcome of each test
@@ -36,15 +35,15 @@ module _ (s : List ℕ) (at kind : ℕ) where
       pub wrong-kind : (kindAt s at ≡ kind → ⊥) → fault 3 (Byte at) ≡ recordTests s at kind
       wrong-kind k = simp (le-ltb (length s) (at + headSize) h, le-ltb (length s) (endAt s at) b, ne-eqb (kindAt s at) kind k)
 
-      pub by-counts : kindAt s at ≡ kind → (out : Bool) → countsOut s at kind ≡ out → testAt 4 (Byte at) out ≡ recordTests s at kind
-      by-counts k out e =
+      pub by-body : kindAt s at ≡ kind → (out : Bool) → bodyOut s at kind ≡ out → testAt 4 (Byte at) out ≡ recordTests s at kind
+      by-body k out e =
           ap (testAt 4 (Byte at)) (sym e) ∙ simp (le-ltb (length s) (at + headSize) h, le-ltb (length s) (endAt s at) b, eq-eqb (kindAt s at) kind k)
 
-  -- a record that passes is there, whole, of the kind that is due, and its counts are in order
-  passes : recordTests s at kind ≡ pass → (testAt 2 (Byte at) (bodyCut s at) ≡ pass) × (testAt 3 (Byte at) (not (eqb (kindAt s at) kind)) ≡ pass) × (testAt 4 (Byte at) (countsOut s at kind) ≡ pass)
+  -- a record that passes is there, whole, of the kind that is due, and its body is in order
+  passes : recordTests s at kind ≡ pass → (testAt 2 (Byte at) (bodyCut s at) ≡ pass) × (testAt 3 (Byte at) (not (eqb (kindAt s at) kind)) ≡ pass) × (testAt 4 (Byte at) (bodyOut s at kind) ≡ pass)
   passes z =
       let kinds = testAt 3 (Byte at) (not (eqb (kindAt s at) kind)) in
-      let counts = testAt 4 (Byte at) (countsOut s at kind) in
+      let counts = testAt 4 (Byte at) (bodyOut s at kind) in
       let (_, z1) = orElse-pass (testAt 2 (Byte at) (headCut s at)) (testAt 2 (Byte at) (bodyCut s at) orElse kinds orElse counts) z in
       let (z2, z3) = orElse-pass (testAt 2 (Byte at) (bodyCut s at)) (kinds orElse counts) z1 in
       let (z4, z5) = orElse-pass kinds counts z3 in (z2, z4, z5)
@@ -52,8 +51,8 @@ module _ (s : List ℕ) (at kind : ℕ) where
   pub record-there : recordTests s at kind ≡ pass → endAt s at ≤ length s
   record-there z = ltb-false (length s) (endAt s at) (testAt-pass 2 (Byte at) (bodyCut s at) (passes z .0))
 
-  pub record-counted : recordTests s at kind ≡ pass → countsOut s at kind ≡ false
-  record-counted z = testAt-pass 4 (Byte at) (countsOut s at kind) (passes z .2)
+  pub record-counted : recordTests s at kind ≡ pass → bodyOut s at kind ≡ false
+  record-counted z = testAt-pass 4 (Byte at) (bodyOut s at kind) (passes z .2)
 
   pub record-kind : recordTests s at kind ≡ pass → kindAt s at ≡ kind
   record-kind z = eqb-true (kindAt s at) kind (not-false (eqb (kindAt s at) kind) (testAt-pass 3 (Byte at) (not (eqb (kindAt s at) kind)) (passes z .1)))
@@ -141,47 +140,21 @@ module _ {s : List ℕ} {count k at : ℕ} {starts : List ℕ} (w : Past s count
       let told : recordsTests s (suc k) ≡ refusalOf r = turn-answer kind e ∙ sym f ∙ ap answerOf g in
       refused-stays s (suc k) count (λ z. not-pass r (sym told ∙ z)) (omega arith) ∙ told
 
--- ---- the whole answer
-module _ (count : ℕ) (s : List ℕ) (x : Layout) where
-  answer-refused : (r : Refusal) → (x .verdict ≡ Refused r) × (x .starts ≡ table maxStarts (λ _. 0)) → formTests count s ≡ refusalOf r → LayoutAnswer count s x
-  answer-refused r e f = record {
-    answer = ap answerOf (e .0) ∙ sym f;
-    starts = λ z. absurd (not-pass r (sym f ∙ z));
-    none = λ _. e .1;
-  }
+  pub all-laid : count ≤ k → count ≤ maxRecords → (x : Layout) → x .verdict ≡ Accepted → x .starts ≡ set starts count at → Laid (recordsTests s count) count s x
+  all-laid l m x e f =
+      let all : k ≡ count = omega (arith, w .few) in
+      let z : recordsTests s count ≡ pass = ap (recordsTests s) (sym all) ∙ w .passed in
+      let d = decode-turn 0 maxStarts (count + 1) (startOf s) k starts at (omega (arith, all)) (omega arith) (w .place) (w .kept) in
+      record {
+        answer = ap answerOf e ∙ sym z;
+        starts = λ _. f ∙ ap (λ (i : ℕ). set starts i at) (sym all) ∙ decode-end 0 maxStarts (count + 1) (startOf s) (k + 1) (set starts k at) (omega arith) (omega arith) d;
+        none = λ n. absurd (n z);
+      }
 
-  pub too-long : maxSheet < length s → (x .verdict ≡ Refused (record { reason = SheetTooLong; place = Nowhere })) × (x .starts ≡ table maxStarts (λ _. 0)) → LayoutAnswer count s x
-  too-long h e = answer-refused (record { reason = SheetTooLong; place = Nowhere }) e (simp (lt-ltb maxSheet (length s) h))
-
-  module _ (short : length s ≤ maxSheet) where
-    abbrev left : Answer
-    left = testAt 5 (Byte (startOf s count)) (ltb (startOf s count) (length s))
-
-    rest : formTests count s ≡ (recordsTests s count orElse left)
-    rest = simp (le-ltb maxSheet (length s) short)
-
-    pub record-refused : (r : Refusal) → recordsTests s count ≡ refusalOf r → (x .verdict ≡ Refused r) × (x .starts ≡ table maxStarts (λ _. 0)) → LayoutAnswer count s x
-    record-refused r f e =
-        answer-refused r e (rest ∙ ap (λ (z : Answer). z orElse left) f)
-
-    module _ {k at : ℕ} {starts : List ℕ} (w : Past s count k at starts) (l : count ≤ k) where
-      all : k ≡ count
-      all = omega (arith, w .few)
-
-      by-end : (b : Bool) → ltb at (length s) ≡ b → formTests count s ≡ testAt 5 (Byte at) b
-      by-end b e =
-          rest ∙ ap (λ (z : Answer). z orElse left) (ap (recordsTests s) (sym all) ∙ w .passed)
-          ∙ ap (λ (a : ℕ). testAt 5 (Byte a) (ltb a (length s))) (ap (startOf s) (sym all) ∙ sym (w .place)) ∙ ap (testAt 5 (Byte at)) e
-
-      pub bytes-left : at < length s → (x .verdict ≡ Refused (record { reason = BytesLeft; place = Byte at })) × (x .starts ≡ table maxStarts (λ _. 0)) → LayoutAnswer count s x
-      bytes-left h e = answer-refused (record { reason = BytesLeft; place = Byte at }) e (by-end true (lt-ltb at (length s) h))
-
-      pub all-read : length s ≤ at → count ≤ maxRecords → x .verdict ≡ Accepted → x .starts ≡ set starts count at → LayoutAnswer count s x
-      all-read h m e f =
-          let z = by-end false (le-ltb at (length s) h) in
-          let d = decode-turn 0 maxStarts (count + 1) (startOf s) k starts at (omega (arith, all)) (omega arith) (w .place) (w .kept) in
-          record {
-            answer = ap answerOf e ∙ sym z;
-            starts = λ _. f ∙ ap (λ (i : ℕ). set starts i at) (sym all) ∙ decode-end 0 maxStarts (count + 1) (startOf s) (k + 1) (set starts k at) (omega arith) (omega arith) d;
-            none = λ n. absurd (n z);
-          }
+-- a refusal has no starts
+pub laid-refused : (a : Answer) (count : ℕ) (s : List ℕ) (x : Layout) (r : Refusal) → (x .verdict ≡ Refused r) × (x .starts ≡ table maxStarts (λ _. 0)) → a ≡ refusalOf r → Laid a count s x
+laid-refused a count s x r e f = record {
+  answer = ap answerOf (e .0) ∙ sym f;
+  starts = λ z. absurd (not-pass r (sym f ∙ z));
+  none = λ _. e .1;
+}

@@ -1,6 +1,8 @@
+pub mod Names
 pub mod Counts
 pub mod Decoding
 pub mod InTurn
+pub mod Whole
 pub mod Bytes
 pub mod Formed
 pub mod Settled

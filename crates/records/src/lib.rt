@@ -3,6 +3,7 @@
 //   matrix   = kind 1: N (2), then the N(N-1)/2 distances (2 each)
 //   tree     = kind 2: N (2), V (2), then the V-1 parents (1 each)
 //   lengths  = kind 3: D (4), K (2), then the K numerators (8 each, two's complement)
+//   names    = kind 5: names one behind the other, each a length byte and its bytes
 use matrix::Matrix;
 use tree::Tree;
 use verdict::Place;
@@ -10,12 +11,16 @@ use verdict::Reason;
 use verdict::Refusal;
 use verdict::Verdict;
 ghost use mathlib.Core.Path.{_≡_};
-ghost use Prim.Native.Nat.{_<_, _≤_};
+ghost use Prim.Native.Nat.{_+_, _<_, _≤_};
 ghost use lib.ListN.{length};
 ghost use Rattle.exact.specs.Table.{table};
 ghost use Rattle.verdict.specs.Answer.{answerOf};
-ghost use Rattle.records.specs.Form.{maxRecords, kindOf, endAt, countsOut, recordTests};
-ghost use Rattle.records.specs.Laid.{maxStarts, LayoutAnswer};
+ghost use mathlib.Core.Bool.{not, _&&_};
+ghost use lib.Dec.{eqb, ltb};
+ghost use Rattle.endian.specs.Bytes.{number};
+ghost use Rattle.records.specs.Names.{nameStart, nameCount};
+ghost use Rattle.records.specs.Form.{maxRecords, longest, namesKind, kindOf, bodyAt, endAt, countsOut, namesAt, bodyOut, recordTests, recordsTests};
+ghost use Rattle.records.specs.Laid.{maxStarts, Laid, LayoutAnswer};
 
 // Where each record of a sheet of the form starts, then where the last one ends, then zeros.
 pub struct Layout {
@@ -27,28 +32,79 @@ impl Layout {
     // The bytes of a record's head.
     pub const HEAD: usize = 6;
 
-    pub const MAX_RECORDS: usize = 3;
+    // Matrix, tree, lengths, names.
+    pub const MAX_RECORDS: usize = 4;
     // As many places as there are records, and the end.
     pub const MAX_STARTS: usize = Layout::MAX_RECORDS + 1;
-    // The most bytes of a sheet: three heads, and the bodies of the largest matrix, tree and lengths.
-    pub const MAX_SHEET: usize = Layout::MAX_RECORDS * Layout::HEAD
+    // The most bytes of a sheet without names: three heads, and the bodies of the largest matrix, tree and lengths.
+    pub const MAX_SHEET: usize = 3 * Layout::HEAD
         + (2 + 2 * Matrix::MAX_PAIRS)
         + (4 + Tree::MAX_EDGES)
         + (6 + 8 * Tree::MAX_EDGES);
+
+    // The kind of a names record.
+    pub const NAMES: usize = 5;
+    // The most bytes of a name.
+    pub const MAX_NAME: usize = 10;
+    // The most bytes of a sheet with names: one head more, and for each strain a length byte and the longest name.
+    pub const MAX_NAMED: usize = Layout::MAX_SHEET
+        + (Layout::HEAD + (Layout::MAX_NAME + 1) * Matrix::MAX_STRAINS);
+}
+
+// Names one behind the other: how many there are, and where the last one ends.
+pub struct Walk {
+    pub count: usize,
+    pub end: usize,
+}
+
+// The limit of a sheet of so many records.
+fn limit(count: usize) -> usize
+    ensures { λ r. ⌜ r ≡ longest count ⌝ }
+{
+    if count > 3 {
+        return Layout::MAX_NAMED;
+    }
+    Layout::MAX_SHEET
 }
 
 // The kind that is due for record k, counted from 0.
 fn kind_of(k: usize) -> usize
     requires { ⌜ k < maxRecords ⌝ }
-    ensures { λ r. ⌜ (r ≡ kindOf k) × (1 ≤ r) × (r ≤ maxRecords) ⌝ }
+    ensures { λ r. ⌜ (r ≡ kindOf k) × (1 ≤ r) × (r ≤ namesKind) ⌝ }
 {
+    if k == 3 {
+        return Layout::NAMES;
+    }
     k + 1
+}
+
+// The names that begin from one place on and before another.
+pub fn names_in(s: &[u8], from: usize, to: usize) -> Walk
+    requires { ⌜ (from ≤ to) × (to ≤ length (now s)) ⌝ }
+    ensures { λ r. ⌜ (r .count ≡ nameCount (now (s .entry)) from to) × (r .end ≡ nameStart (now (s .entry)) from (nameCount (now (s .entry)) from to)) ⌝ }
+{
+    let mut at = from;
+    let mut count = 0;
+    while at < to {
+        at = at + 1 + s[at] as usize;
+        count += 1;
+    }
+    Walk { count, end: at }
+}
+
+// The names of the record that starts at `at`.
+pub fn names_at(s: &[u8], at: usize) -> Walk
+    requires { ⌜ endAt (now s) at ≤ length (now s) ⌝ }
+    ensures { λ r. ⌜ (r .count ≡ namesAt (now (s .entry)) at) × (r .end ≡ nameStart (now (s .entry)) (bodyAt at) (namesAt (now (s .entry)) at)) ⌝ }
+{
+    let body = at + Layout::HEAD;
+    names_in(s, body, body + endian::u32_at(s, at) as usize)
 }
 
 // 4: no room for the counts, V = 0, or a length that is not as the last count says. It says for N that N(N-1)
 // bytes follow, for V one byte fewer than V, for K eight times K. With V = 0 the length would be below 4.
 fn counts_out(s: &[u8], at: usize, kind: usize) -> bool
-    requires { ⌜ (1 ≤ kind) × (kind ≤ maxRecords) × (endAt (now s) at ≤ length (now s)) ⌝ }
+    requires { ⌜ (1 ≤ kind) × (kind ≤ namesKind) × (endAt (now s) at ≤ length (now s)) ⌝ }
     ensures { λ r. ⌜ r ≡ countsOut (now (s .entry)) at kind ⌝ }
 {
     let size = endian::u32_at(s, at) as usize;
@@ -67,9 +123,21 @@ fn counts_out(s: &[u8], at: usize, kind: usize) -> bool
     size != 6 + 8 * count
 }
 
+// 4 by the kind: names that do not end with the body, or counts that are out.
+fn body_out(s: &[u8], at: usize, kind: usize) -> bool
+    requires { ⌜ (1 ≤ kind) × (kind ≤ namesKind) × (endAt (now s) at ≤ length (now s)) ⌝ }
+    ensures { λ r. ⌜ r ≡ bodyOut (now (s .entry)) at kind ⌝ }
+{
+    if kind == Layout::NAMES {
+        let names = names_at(s, at);
+        return names.end != at + Layout::HEAD + endian::u32_at(s, at) as usize;
+    }
+    counts_out(s, at, kind)
+}
+
 // 2, 3, 4 for the record of that kind that starts at `at`, which is the place of each.
-fn one_record(s: &[u8], at: usize, kind: usize) -> Verdict
-    requires { ⌜ (1 ≤ kind) × (kind ≤ maxRecords) × (at ≤ length (now s)) ⌝ }
+pub fn one_record(s: &[u8], at: usize, kind: usize) -> Verdict
+    requires { ⌜ (1 ≤ kind) × (kind ≤ namesKind) × (at ≤ length (now s)) ⌝ }
     ensures { λ r. ⌜ answerOf r ≡ recordTests (now (s .entry)) at kind ⌝ }
 {
     let left = s.len() - at;
@@ -91,7 +159,7 @@ fn one_record(s: &[u8], at: usize, kind: usize) -> Verdict
             place: Place::Byte(at),
         });
     }
-    if counts_out(s, at, kind) {
+    if body_out(s, at, kind) {
         return Verdict::Refused(Refusal {
             reason: Reason::WrongCounts,
             place: Place::Byte(at),
@@ -116,18 +184,11 @@ fn refused(refusal: Refusal) -> Layout
     }
 }
 
-// The form of a sheet of so many records, three or, without lengths, two: 1; 2, 3, 4 for each record in turn; 5 at the first
-// byte behind the last record.
-pub fn records(s: &[u8], count: usize) -> Layout
+// 2, 3, 4 for each of so many records in turn.
+fn in_turn(s: &[u8], count: usize) -> Layout
     requires { ⌜ count ≤ maxRecords ⌝ }
-    ensures { λ r. ⌜ LayoutAnswer count (now (s .entry)) r ⌝ }
+    ensures { λ r. ⌜ Laid (recordsTests (now (s .entry)) count) count (now (s .entry)) r ⌝ }
 {
-    if s.len() > Layout::MAX_SHEET {
-        return refused(Refusal {
-            reason: Reason::SheetTooLong,
-            place: Place::Nowhere,
-        });
-    }
     let mut starts = no_starts();
     let mut at = 0;
     let mut k = 0;
@@ -141,14 +202,54 @@ pub fn records(s: &[u8], count: usize) -> Layout
         k += 1;
     }
     starts[count] = at;
-    if at < s.len() {
-        return refused(Refusal {
-            reason: Reason::BytesLeft,
-            place: Place::Byte(at),
-        });
-    }
     Layout {
         verdict: Verdict::Accepted,
         starts,
     }
+}
+
+// 4 in a sheet with names, also: the fourth record, which starts at `at`, has not as many names as the matrix has strains.
+fn names_differ(s: &[u8], count: usize, at: usize) -> bool
+    requires { ⌜ (3 < count → (endAt (now s) at ≤ length (now s)) × (bodyAt 0 + 2 ≤ length (now s))) ⌝ }
+    ensures { λ r. ⌜ r ≡ (ltb 3 count && not (eqb (namesAt (now (s .entry)) at) (number 2 (now (s .entry)) (bodyAt 0)))) ⌝ }
+{
+    if count <= 3 {
+        return false;
+    }
+    let names = names_at(s, at);
+    names.count != endian::u16_at(s, Layout::HEAD) as usize
+}
+
+// The form of a sheet of so many records, three, without lengths two, or with names four: 1; 2, 3, 4 for each record in turn;
+// 4 for names that are not N; 5 at the first byte behind the last record.
+pub fn records(s: &[u8], count: usize) -> Layout
+    requires { ⌜ count ≤ maxRecords ⌝ }
+    ensures { λ r. ⌜ LayoutAnswer count (now (s .entry)) r ⌝ }
+{
+    if s.len() > limit(count) {
+        return refused(Refusal {
+            reason: Reason::SheetTooLong,
+            place: Place::Nowhere,
+        });
+    }
+    let laid = in_turn(s, count);
+    let of_records = laid.verdict;
+    if let Verdict::Refused(refusal) = of_records {
+        return refused(refusal);
+    }
+    let names = laid.starts[3];
+    if names_differ(s, count, names) {
+        return refused(Refusal {
+            reason: Reason::WrongCounts,
+            place: Place::Byte(names),
+        });
+    }
+    let end = laid.starts[count];
+    if end < s.len() {
+        return refused(Refusal {
+            reason: Reason::BytesLeft,
+            place: Place::Byte(end),
+        });
+    }
+    laid
 }

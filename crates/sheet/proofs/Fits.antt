@@ -43,7 +43,7 @@ module _ (rule : Rule) (s : List ℕ) (r : Sheet) (a : SheetAnswer 3 s r) (e : r
   parts = read-parts 3 s r (omega arith) a e
 
   lengths : Lengths s r
-  lengths = read-lengths s r a e
+  lengths = read-lengths 3 s r (omega arith) a e
 
   size : length zeros ≡ maxEdges
   size = ap length blank ∙ length-table maxEdges (λ _. pos 0)

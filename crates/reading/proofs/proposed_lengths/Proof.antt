@@ -1,11 +1,11 @@
--- Two records have no lengths; of three, K is compared before a numerator is read.
+-- Two records have no lengths; of three or four, K is compared before a numerator is read.
 use mathlib.Core.Path.{_≡_, refl, sym, _∙_}
 use mathlib.Core.List.{List}
-use Prim.Native.Nat.{ℕ, _+_, _*_, _≤_}
+use Prim.Native.Nat.{ℕ, _+_, _*_, _<_, _≤_}
 use native.Mathlib.Omega.{arith}
 use lib.ListN.{length}
 use Rattle.endian.specs.Bytes.{number}
-use Rattle.records.specs.Form.{maxSheet}
+use Rattle.records.specs.Form.{maxNamed}
 use Rattle.reading.proofs.Formed.{lengths-end}
 use Rattle.reading.proofs.Lengthened.{without-lengths, other-count, with-lengths}
 use borrow.Author.Needs.{needs}
@@ -15,13 +15,13 @@ use Rattle.reading.proofs.proposed_lengths.Tie as tie
 abbrev bytes : tie.Else1 → List ℕ
 bytes c = c .before .before .args .s .now
 
-three : (c : tie.Else1) → c .before .before .args .count ≡ 3
+three : (c : tie.Else1) → 2 < c .before .before .args .count
 three c = omega arith
 
 ends : (c : tie.Else1)
     → let at = c .before .before .args .at in
-    (at + 12 + 8 * number 2 (bytes c) (at + 6 + 4) ≤ length (bytes c)) × (length (bytes c) ≤ maxSheet)
-ends c = lengths-end _ (bytes c) (c .before .before .pre .0 .2) (omega arith) _ (c .before .before .pre .0 .3)
+    (at + 12 + 8 * number 2 (bytes c) (at + 6 + 4) ≤ length (bytes c)) × (length (bytes c) ≤ maxNamed)
+ends c = lengths-end (c .before .before .args .count) (bytes c) (c .before .before .pre .0 .2) (omega arith) _ (c .before .before .pre .0 .3)
 
 edge-zeros-requires : tie.Need-edge-zeros-requires
 edge-zeros-requires c κs = search needs

@@ -60,7 +60,7 @@ add-result-4 : tie.Need-add-result-4
 add-result-4 c = search needs
 
 returns-4 : tie.Need-returns-4
-returns-4 c = of-lengths _ _ _ _ (c .before .before .before .before .u32-at .ensures) _ (c .before .before .u16-at .ensures) (omega arith) (omega arith)
+returns-4 c = of-lengths _ _ _ _ (c .before .before .before .before .u32-at .ensures) _ (c .before .before .u16-at .ensures) (omega arith) (c .before .if2 .left) (c .if3 .left)
 
 pub counts-out-spec : {M : Type 1} → statement M
 counts-out-spec =

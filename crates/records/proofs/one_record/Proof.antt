@@ -3,20 +3,20 @@ use mathlib.Core.Path.{_≡_, sym, _∙_}
 use mathlib.Core.Bool.{Bool, true, false}
 use Rattle.verdict.specs.declared.Place.the-variants.{Byte}
 use Rattle.verdict.specs.Answer.{testAt}
-use Rattle.records.specs.Form.{countsOut, recordTests}
+use Rattle.records.specs.Form.{bodyOut, recordTests}
 use native.Mathlib.Omega.{arith}
-use Rattle.records.proofs.InTurn.{head-cut, body-cut, wrong-kind, by-counts}
+use Rattle.records.proofs.InTurn.{head-cut, body-cut, wrong-kind, by-body}
 use borrow.Author.Needs.{needs}
 use Rattle.records.proofs.one_record.Statement.{statement}
 use Rattle.records.proofs.one_record.Tie as tie
 
--- past the head, the counts decide
-counted : (c : tie.After-counts-out) (out : Bool)
+-- past the head, the body decides
+counted : (c : tie.After-body-out) (out : Bool)
     → let begun = c .before .before .before .before .before .before .before in
-    countsOut (begun .args .s .now) (begun .args .at) (begun .args .kind) ≡ out → testAt 4 (Byte (begun .args .at)) out ≡ recordTests (begun .args .s .now) (begun .args .at) (begun .args .kind)
+    bodyOut (begun .args .s .now) (begun .args .at) (begun .args .kind) ≡ out → testAt 4 (Byte (begun .args .at)) out ≡ recordTests (begun .args .s .now) (begun .args .at) (begun .args .kind)
 counted c out e =
     let begun = c .before .before .before .before .before .before .before in
-    by-counts (begun .args .s .now) (begun .args .at) _ (omega arith) (omega arith) (sym (c .before .before .u16-at .ensures) ∙ c .before .if3 .left) out e
+    by-body (begun .args .s .now) (begun .args .at) _ (omega arith) (omega arith) (sym (c .before .before .u16-at .ensures) ∙ c .before .if3 .left) out e
 
 sub-left : tie.Need-sub-left
 sub-left c = search needs
@@ -46,14 +46,14 @@ returns-3 : tie.Need-returns-3
 returns-3 c = let begun = c .before .before .before .before .before .before in
     wrong-kind (begun .args .s .now) (begun .args .at) _ (omega arith) (omega arith) (λ e. c .if3 .taken (c .before .u16-at .ensures ∙ e))
 
-counts-out-requires : tie.Need-counts-out-requires
-counts-out-requires c κs = search needs
+body-out-requires : tie.Need-body-out-requires
+body-out-requires c κs = search needs
 
 returns-4 : tie.Need-returns-4
-returns-4 c = counted (c .before) true (sym (c .before .counts-out .ensures) ∙ c .if4 .taken)
+returns-4 c = counted (c .before) true (sym (c .before .body-out .ensures) ∙ c .if4 .taken)
 
 returns-5 : tie.Need-returns-5
-returns-5 c = counted (c .before) false (sym (c .before .counts-out .ensures) ∙ c .if4 .left)
+returns-5 c = counted (c .before) false (sym (c .before .body-out .ensures) ∙ c .if4 .left)
 
 pub one-record-spec : {M : Type 1} → statement M
 one-record-spec =
@@ -68,6 +68,6 @@ one-record-spec =
     u16-at-requires
     cast-if3
     returns-3
-    counts-out-requires
+    body-out-requires
     returns-4
     returns-5)

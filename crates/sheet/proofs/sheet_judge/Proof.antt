@@ -15,7 +15,7 @@ held : (c : tie.After-enum-told) → Parts (c .before .before .before .before .a
 held c = read-parts 3 _ _ (omega arith) (c .before .before .read .ensures) (c .enum-told .given .1)
 
 proposed : (c : tie.After-enum-told) → Lengths (c .before .before .before .before .args .s .now) (c .before .before .read .result)
-proposed c = read-lengths _ _ (c .before .before .read .ensures) (c .enum-told .given .1)
+proposed c = read-lengths 3 _ _ (omega arith) (c .before .before .read .ensures) (c .enum-told .given .1)
 
 read-requires : tie.Need-read-requires
 read-requires c κs = search needs
@@ -51,7 +51,7 @@ slice-aggregate-judge-proposal-2 : tie.Need-slice-aggregate-judge-proposal-2
 slice-aggregate-judge-proposal-2 c = proposed (c .before .before .before .before .before) .size
 
 judge-proposal-requires : tie.Need-judge-proposal-requires
-judge-proposal-requires c κs = let told = c .before .before .before .before .before in to-parts (held told) Posted (read-posted _ _ (told .before .before .read .ensures) (told .enum-told .given .1))
+judge-proposal-requires c κs = let told = c .before .before .before .before .before in to-parts (held told) Posted (read-posted 3 _ _ (omega arith) (told .before .before .read .ensures) (told .enum-told .given .1))
 
 returns-2 : tie.Need-returns-2
 returns-2 c = let told = c .before .before .before .before .before .before in

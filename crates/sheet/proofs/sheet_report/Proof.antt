@@ -15,7 +15,7 @@ held : (c : tie.After-enum-told) → Parts (c .before .before .before .before .a
 held c = read-parts 3 _ _ (omega arith) (c .before .before .read .ensures) (c .enum-told .given .1)
 
 proposed : (c : tie.After-enum-told) → Lengths (c .before .before .before .before .args .s .now) (c .before .before .read .result)
-proposed c = read-lengths _ _ (c .before .before .read .ensures) (c .enum-told .given .1)
+proposed c = read-lengths 3 _ _ (omega arith) (c .before .before .read .ensures) (c .enum-told .given .1)
 
 read-requires : tie.Need-read-requires
 read-requires c κs = search needs
@@ -68,7 +68,7 @@ slice-aggregate-report-proposal-3 c = let told = c .before .before .before .befo
     front-size (r .before .before .args .rule) _ (r .read .result) (r .read .ensures) (told .enum-told .given .1) _ (c .before .before .before .before .edge-zeros .ensures)
 
 report-proposal-requires : tie.Need-report-proposal-requires
-report-proposal-requires c κs = let told = c .before .before .before .before .before .before .before in to-parts (held told) Posted (read-posted _ _ (told .before .before .read .ensures) (told .enum-told .given .1))
+report-proposal-requires c κs = let told = c .before .before .before .before .before .before .before in to-parts (held told) Posted (read-posted 3 _ _ (omega arith) (told .before .before .read .ensures) (told .enum-told .given .1))
 
 enum-known-found : tie.Need-enum-known-found
 enum-known-found c = search needs

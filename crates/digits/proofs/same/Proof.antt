@@ -4,10 +4,10 @@ use Prim.Native.Nat.{_-_, _≤_}
 use borrow.Author.Needs.{needs}
 use native.Mathlib.Omega.{arith}
 use lib.ListN.{length, drop}
 use Rattle.digits.specs.Digits.{same}
-use Rattle.desk_words.proofs.Reading.{same-longer, same-on, same-off, same-all}
-use Rattle.desk_words.proofs.same.Statement.{statement}
-use Rattle.desk_words.proofs.same.Tie as tie
+use Rattle.digits.proofs.Comparing.{same-longer, same-on, same-off, same-all}
+use Rattle.digits.proofs.same.Statement.{statement}
+use Rattle.digits.proofs.same.Tie as tie
 
 abbrev Inv-loop : tie.InvT-loop
 Inv-loop a b k₀ k = (k ≤ length a) × ((length a ≡ length b) × (same (drop k a) (drop k b) ≡ same a b))

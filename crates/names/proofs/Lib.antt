@@ -1,0 +1,4 @@
+pub mod Walking
+pub mod Lent
+pub mod Settled
+pub mod Laws
