@@ -1,6 +1,6 @@
 -- What the tests of a length tell, by positions in the text; and that cutting leaves every length that is allowed as it is (`cut-in`).
 use mathlib.Core.Path.{_≡_, refl, sym, _∙_, ap, ap₂}
-use mathlib.Core.Bool.{Bool, true, false, cond, not, _&&_, _||_}
+use mathlib.Core.Bool.{Bool, true, false, cond, not, _&&_}
 use mathlib.Core.List.{List}
 use Prim.Native.Nat.{ℕ, zero, suc, _+_, _-_, _≤_, _<_}
 use native.Mathlib.Decide.{decLt}
@@ -17,7 +17,7 @@ use Rattle.digits.proofs.Reading.{inside, slice-is, cut-again, low-cut, high-cu
 use Rattle.names.specs.Name.{maxName, isNameByte}
 use Rattle.newick_text.specs.Length.{signSize, wholeSize, pointAt, magnitudeOf, lengthSize, lengthThere, valueOf}
 use Rattle.newick_text.proofs.Lengths.{told, sign-one}
-use Rattle.newick_words.specs.Words.{nameWidth, lengthWidth, edgeWidth, cut}
+use Rattle.newick_words.specs.Words.{nameWidth, edgeWidth, cut}
 
 -- ---- cutting a whole number
 pub cut-neg : (n : ℕ) → cut (negℤ (pos n)) ≡ negℤ (pos (atMost n))
@@ -164,14 +164,6 @@ module _ (s : List ℕ) (at : ℕ) (h : at ≤ length s) where
   unfolding nameWidth
   name-short end e b l = (sym (rw (le-leb (run isNameByte (drop at s)) maxName (omega arith)) (sym e)), b)
 
-  pub length-stands : (p : ℕ) → lengthThere (drop at s) ≡ true → p ≡ at + pointAt (drop at s) → (p + 4 ≡ at + lengthWidth (drop at s)) × (p + 4 ≤ length s)
-  unfolding lengthWidth lengthSize
-  length-stands p t e = (sym (rw t (omega arith)), omega (arith, told (drop at s) t .long, length-drop at s))
-
-  pub length-none : lengthThere (drop at s) ≡ false → (at ≡ at + lengthWidth (drop at s)) × (at ≤ length s)
-  unfolding lengthWidth
-  length-none t = (sym (rw t (omega arith)), h)
-
   next-is : drop 1 (drop at s) ≡ drop (at + 1) s
   next-is = drop-drop 1 at s
 
@@ -186,37 +178,3 @@ module _ (s : List ℕ) (at : ℕ) (h : at ≤ length s) where
   pub edge-short : getD s at 0 ≡ 58 → lengthThere (drop (at + 1) s) ≡ false → (at ≡ at + edgeWidth (drop at s)) × (at ≤ length s)
   unfolding edgeWidth
   edge-short b t = (sym (rw (next-is, t, eq-eqb (getD (drop at s) 0 0) 58 (front-byte s at ∙ b)) (omega arith)), h)
-
--- ---- a byte of a name, range by range
-module _ (x : ℕ) where
-  pub name-low : x < 48 → false ≡ isNameByte x
-  unfolding isNameByte
-  name-low h = simp (lt-leb 48 x h, lt-leb 65 x (omega arith), lt-leb 97 x (omega arith), ne-eqb x 95 (λ e. omega arith))
-
-  pub name-digit : 48 ≤ x → x ≤ 57 → true ≡ isNameByte x
-  unfolding isNameByte
-  name-digit h i = simp (le-leb 48 x h, le-leb x 57 i)
-
-  pub name-colon : 57 < x → x < 65 → false ≡ isNameByte x
-  unfolding isNameByte
-  name-colon h i = simp (le-leb 48 x (omega arith), lt-leb x 57 h, lt-leb 65 x i, lt-leb 97 x (omega arith), ne-eqb x 95 (λ e. omega arith))
-
-  pub name-upper : 65 ≤ x → x ≤ 90 → true ≡ isNameByte x
-  unfolding isNameByte
-  name-upper h i = simp (le-leb 48 x (omega arith), lt-leb x 57 (omega arith), le-leb 65 x h, le-leb x 90 i)
-
-  pub name-line : x ≡ 95 → true ≡ isNameByte x
-  unfolding isNameByte
-  name-line h = rw h
-
-  pub name-between : 90 < x → x < 97 → (x ≡ 95 → ⊥) → false ≡ isNameByte x
-  unfolding isNameByte
-  name-between h i n = simp (le-leb 48 x (omega arith), lt-leb x 57 (omega arith), le-leb 65 x (omega arith), lt-leb x 90 h, lt-leb 97 x i, ne-eqb x 95 n)
-
-  pub name-lower : 97 ≤ x → leb x 122 ≡ isNameByte x
-  unfolding isNameByte
-  name-lower h = simp (le-leb 48 x (omega arith), lt-leb x 57 (omega arith), le-leb 65 x (omega arith), lt-leb x 90 (omega arith), le-leb 97 x h, ne-eqb x 95 (λ e. omega arith)) (sym (or-false (leb x 122)))
-    where
-      or-false : (b : Bool) → (b || false) ≡ b
-      or-false true = refl
-      or-false false = refl

@@ -14,10 +14,6 @@ use Rattle.newick_text.specs.Length.{lengthThere, lengthSize}
 unfoldable pub nameWidth : List ℕ → ℕ
 nameWidth l = cond (leb (run isNameByte l) maxName) (run isNameByte l) 0
 
--- a length
-unfoldable pub lengthWidth : List ℕ → ℕ
-lengthWidth l = cond (lengthThere l) (lengthSize l) 0
-
 -- a colon and a length
 unfoldable pub edgeWidth : List ℕ → ℕ
 edgeWidth l = cond (eqb (getD l 0 0) 58 && lengthThere (drop 1 l)) (1 + lengthSize (drop 1 l)) 0

@@ -1,65 +1,22 @@
 // The words of a tree in text: where a name ends, where a length ends, and its thousandths. Each is read where it stands, in one pass over
 // its bytes.
+use records::Layout;
 ghost use mathlib.Core.Path.{_≡_};
 ghost use mathlib.Core.Bool.{true, _&&_};
 ghost use Prim.Native.Nat.{_+_, _-_, _≤_};
 ghost use lib.Dec.{eqb, ltb};
 ghost use lib.ListN.{length, getD, drop};
-ghost use Rattle.digits.specs.Digits.{run, most, atMost};
-ghost use Rattle.names.specs.Name.{isNameByte};
+ghost use Rattle.digits.specs.Digits.{most, atMost};
 ghost use Rattle.newick_text.specs.Length.{signSize, pointAt, magnitudeOf, lengthThere, valueOf};
-ghost use Rattle.newick_words.specs.Words.{nameWidth, lengthWidth, edgeWidth, cut};
-
-// The most bytes of a name.
-const MAX_NAME: usize = 10;
-
-// Whether a byte is a letter, a digit or an underscore.
-pub fn is_name_byte(byte: u8) -> bool
-    ensures { λ r. ⌜ r ≡ isNameByte byte ⌝ }
-{
-    if byte < 48 {
-        return false;
-    }
-    if byte <= 57 {
-        return true;
-    }
-    if byte < 65 {
-        return false;
-    }
-    if byte <= 90 {
-        return true;
-    }
-    if byte == 95 {
-        return true;
-    }
-    if byte < 97 {
-        return false;
-    }
-    byte <= 122
-}
-
-// Where the bytes that stand in names end, from a place on.
-fn name_bytes_end(text: &[u8], at: usize) -> usize
-    requires { ⌜ at ≤ length (now text) ⌝ }
-    ensures { λ r. ⌜ (r ≡ at + run isNameByte (drop at (now (text .entry)))) × (r ≤ length (now (text .entry))) ⌝ }
-{
-    let mut end = at;
-    while end < text.len() {
-        if !is_name_byte(text[end]) {
-            return end;
-        }
-        end += 1;
-    }
-    end
-}
+ghost use Rattle.newick_words.specs.Words.{nameWidth, edgeWidth, cut};
 
 // Where the name at a place ends, that place where none stands there.
 pub fn name_end(text: &[u8], at: usize) -> usize
     requires { ⌜ at ≤ length (now text) ⌝ }
     ensures { λ r. ⌜ (r ≡ at + nameWidth (drop at (now (text .entry)))) × (r ≤ length (now (text .entry))) ⌝ }
 {
-    let end = name_bytes_end(text, at);
-    if end - at > MAX_NAME {
+    let end = names::name_end(text, at);
+    if end - at > Layout::MAX_NAME {
         return at;
     }
     end
@@ -130,17 +87,6 @@ fn length_there(text: &[u8], at: usize) -> bool
         return true;
     }
     magnitude(text, at) != 0
-}
-
-// Where the length at a place ends, that place where none stands there.
-pub fn length_end(text: &[u8], at: usize) -> usize
-    requires { ⌜ at ≤ length (now text) ⌝ }
-    ensures { λ r. ⌜ (r ≡ at + lengthWidth (drop at (now (text .entry)))) × (r ≤ length (now (text .entry))) ⌝ }
-{
-    if length_there(text, at) {
-        return point_of(text, at) + 4;
-    }
-    at
 }
 
 // Where a colon and the length behind it end, that place where they do not stand there.
