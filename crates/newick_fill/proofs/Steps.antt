@@ -6,11 +6,14 @@ use mathlib.Core.List.{List, [], _∷_, _++_}
 use Prim.Native.Nat.{ℕ, suc, _+_, _-_, _<_, _≤_}
 use native.Mathlib.Numerals.{add-one}
 use native.Mathlib.Omega.{arith}
-use lib.IntN.{ℤ}
+use lib.IntN.{ℤ, natAbs}
 use lib.ListN.{length, drop, take, getD, set, length-drop, length-append}
-use lib.Seq.{slice, take-at, drop-at, drop-drop}
+use lib.Seq.{take-at, drop-at, drop-drop}
+use mir.Syntax.{w64}
+use mir.Val.{toZ, ofZ}
+use Rattle.exact.proofs.Sign.{back}
 use Rattle.digits.specs.Digits.{run, isDigit}
-use Rattle.digits.proofs.Reading.{inside, slice-is}
+use Rattle.digits.proofs.Reading.{inside}
 use Rattle.names.specs.Name.{isNameByte, isName}
 use Rattle.newick_text.specs.Length.{lengthThere, isLength, valueOf}
 use Rattle.newick_text.specs.Tree.{Tree, leaf, node, Row, none, some, textThen, rowThen, Formed, RowFormed}
@@ -18,9 +21,14 @@ use Rattle.newick_text.specs.Table.{after, rowAfter, numberOf, filled, rowFille
 use Rattle.newick_text.proofs.Lengths.{length-then}
 use Rattle.newick_text.proofs.Unique.{colon-ends, name-told, no-bracket, row-stops}
 use Rattle.newick_words.specs.Words.{nameWidth, edgeWidth, cut}
+use Rattle.newick_words.proofs.Words.{cut-small}
 use Rattle.newick_words.proofs.Edges.{byte-is, first-is, rest-is, name-known, edge-known}
 use Rattle.newick_fill.specs.declared.Step.{Step}
 use Rattle.newick_fill.specs.Fill.{byteOf, parentEntry, lengthEntry, ahead, Vertex, Children, Took, TookAll}
+
+-- a cut length comes back from its bits
+pub stored : (z w : ℤ) → z ≡ cut w → toZ w64 (ofZ w64 z) ≡ cut w
+stored z w e = back z (omega (arith, ap natAbs e, cut-small w)) ∙ e
 
 -- ---- the two kinds of vertices, by the byte at their place
 record Opened (s : List ℕ) (a : ℕ) (t : Tree) (rest : List ℕ) : Type 0 where
@@ -97,14 +105,14 @@ module _ (find : List ℕ → ℕ) (s : List ℕ) (a k : ℕ) (p q : List ℕ) (
 
   -- ---- a name, up to e
   module _ (h : getD s a 0 ≡ 40 → ⊥) (e : ℕ) (is : e ≡ a + nameWidth (drop a s)) (within : e ≤ length s) where
-    pub took-name : (z : ℕ) → z ≡ find (slice a e s) → p ≡ q → x ≡ y → k ≤ a + ahead → (v : Vertex s a) → Took find s a k p q x y (record { end = e; number = z; next = k }) v
+    pub took-name : (z : ℕ) → z ≡ find (take (e - a) (drop a s)) → p ≡ q → x ≡ y → k ≤ a + ahead → (v : Vertex s a) → Took find s a k p q x y (record { end = e; number = z; next = k }) v
     unfolding numberOf after filled
     took-name z f ep ex b v =
         let n = named s a h (v .tree) (v .room) (v .rest) (v .formed) (v .text) in
         let e-is : e ≡ a + length (n .word) = name-known s a e is (n .word) (v .rest) (n .name) (v .stop) (n .text) in
         let behind : drop e s ≡ v .rest = ap (λ (i : ℕ). drop i s) e-is ∙ sym (drop-drop (length (n .word)) a s) ∙ ap (drop (length (n .word))) (n .text) ∙ drop-at (n .word) (v .rest) (length (n .word)) refl in
         let long : e - a ≡ length (n .word) = omega (arith, e-is) in
-        let word : slice a e s ≡ n .word = slice-is s a e ∙ ap₂ (λ (i : ℕ) (l : List ℕ). take i l) long (n .text) ∙ take-at (n .word) (v .rest) (length (n .word)) refl in
+        let word : take (e - a) (drop a s) ≡ n .word = ap₂ (λ (i : ℕ) (l : List ℕ). take i l) long (n .text) ∙ take-at (n .word) (v .rest) (length (n .word)) refl in
         record {
           behind = behind;
           onward = omega (arith, e-is, name-told (n .word) (n .name) .some-byte);
@@ -164,10 +172,11 @@ module _ (find : List ℕ → ℕ) (s : List ℕ) (a k : ℕ) (p q : List ℕ) (
 
       -- the bracket closes there
       module _ (h : getD s j 0 ≡ 41) where
-        pub took-last : (z : ℤ) → z ≡ cut (valueOf (drop (r .end + 1) s)) → (c : Children s a)
-            → TookAll find s a k p (set q (r .number) (byteOf (r .next))) x (set y (r .number) z) (record { end = j + 1; number = r .next; next = r .next + 1 }) c
+        pub took-last : (z : ℤ) → z ≡ cut (valueOf (drop (r .end + 1) s)) → (g : List ℕ) (w : List ℤ)
+            → g ≡ set q (r .number) (byteOf (r .next)) → w ≡ set y (r .number) z → (c : Children s a)
+            → TookAll find s a k p g x w (record { end = j + 1; number = r .next; next = r .next + 1 }) c
         unfolding rowAfter rowFilled first-child
-        took-last z ez c =
+        took-last z ez g w eg ew c =
             let t = took c in
             let l = last-of s j h (c .others) (c .rest) (rest-there c) in
             let b = inside s j 40 h in
@@ -179,9 +188,9 @@ module _ (find : List ℕ → ℕ) (s : List ℕ) (a k : ℕ) (p q : List ℕ) (
               number = num;
               next = add-one (r .next);
               small = omega (arith, t .small, edge-is c);
-              parents = ap₂ (λ (g : List ℕ) (i : ℕ). set g i (byteOf (r .next))) (t .parents) (t .number)
+              parents = eg ∙ ap₂ (λ (l : List ℕ) (i : ℕ). set l i (byteOf (r .next))) (t .parents) (t .number)
                   ∙ sym (ap (λ (o : Row). set (rowFilled find parentEntry o (r .next) (after (c .first) k) (filled find parentEntry (c .first) k p)) (numberOf find (c .first) k) (byteOf (r .next))) (l .0));
-              numerators = ap₂ (λ (g : List ℤ) (i : ℕ). set g i z) (t .numerators) (t .number)
+              numerators = ew ∙ ap₂ (λ (l : List ℤ) (i : ℕ). set l i z) (t .numerators) (t .number)
                   ∙ ap (λ (i : ℤ). set (filled find lengthEntry (c .first) k x) (numberOf find (c .first) k) i) (ez ∙ ap cut (value-is c))
                   ∙ sym (ap (λ (o : Row). set (rowFilled find lengthEntry o (r .next) (after (c .first) k) (filled find lengthEntry (c .first) k x)) (numberOf find (c .first) k) (cut (valueOf (c .word)))) (l .0));
             }
@@ -196,14 +205,16 @@ module _ (find : List ℕ → ℕ) (s : List ℕ) (a k : ℕ) (p q : List ℕ) (
         other-kids c = others c .kids
 
         -- they stand further on in the text
-        pub others-within : Children s a → (a < j) × (j + 1 ≤ length s)
-        others-within c = let b = inside s j 43 (others c .comma) in (omega (arith, took c .onward, edge-is c), omega (arith, b))
+        pub others-within : Children s a → (a < j) × (j + 1 ≤ length s) × (r .next ≤ j + 1 + ahead)
+        others-within c =
+            let b = inside s j 43 (others c .comma) in
+            (omega (arith, took c .onward, edge-is c), omega (arith, b), omega (arith, took c .small, edge-is c))
 
-        pub took-more : (z : ℤ) → z ≡ cut (valueOf (drop (r .end + 1) s)) → (g : List ℕ) (w : List ℤ) (o : Step)
-            → ((c : Children s (j + 1)) → TookAll find s (j + 1) (r .next) q g y w o c) → (c : Children s a)
-            → TookAll find s a k p (set g (r .number) (byteOf (o .number))) x (set w (r .number) z) o c
+        pub took-more : (z : ℤ) → z ≡ cut (valueOf (drop (r .end + 1) s)) → (f g : List ℕ) (v w : List ℤ) (o : Step)
+            → ((c : Children s (j + 1)) → TookAll find s (j + 1) (r .next) q f y v o c) → g ≡ set f (r .number) (byteOf (o .number)) → w ≡ set v (r .number) z
+            → (c : Children s a) → TookAll find s a k p g x w o c
         unfolding rowAfter rowFilled first-child
-        took-more z ez g w o e c =
+        took-more z ez f g v w o e eg ew c =
             let t = took c in
             let m = others c in
             let n = e (m .kids) in
@@ -215,9 +226,9 @@ module _ (find : List ℕ → ℕ) (s : List ℕ) (a k : ℕ) (p q : List ℕ) (
               number = n .number ∙ ap (rowAfter row) (t .next) ∙ sym (ap (λ (l : Row). rowAfter l (after (c .first) k)) (m .is));
               next = n .next;
               small = n .small;
-              parents = ap₂ (λ (l : List ℕ) (i : ℕ). set l i (byteOf (o .number))) (n .parents ∙ ap₂ (λ (i : ℕ) (l : List ℕ). rowFilled find parentEntry row (o .number) i l) (t .next) (t .parents)) (t .number)
+              parents = eg ∙ ap₂ (λ (l : List ℕ) (i : ℕ). set l i (byteOf (o .number))) (n .parents ∙ ap₂ (λ (i : ℕ) (l : List ℕ). rowFilled find parentEntry row (o .number) i l) (t .next) (t .parents)) (t .number)
                   ∙ sym (ap (λ (l : Row). set (rowFilled find parentEntry l (o .number) (after (c .first) k) (filled find parentEntry (c .first) k p)) (numberOf find (c .first) k) (byteOf (o .number))) (m .is));
-              numerators = ap₂ (λ (l : List ℤ) (i : ℕ). set l i z) (n .numerators ∙ ap₂ (λ (i : ℕ) (l : List ℤ). rowFilled find lengthEntry row (o .number) i l) (t .next) (t .numerators)) (t .number)
+              numerators = ew ∙ ap₂ (λ (l : List ℤ) (i : ℕ). set l i z) (n .numerators ∙ ap₂ (λ (i : ℕ) (l : List ℤ). rowFilled find lengthEntry row (o .number) i l) (t .next) (t .numerators)) (t .number)
                   ∙ ap (λ (i : ℤ). set (rowFilled find lengthEntry row (o .number) (after (c .first) k) (filled find lengthEntry (c .first) k x)) (numberOf find (c .first) k) i) (ez ∙ ap cut (value-is c))
                   ∙ sym (ap (λ (l : Row). set (rowFilled find lengthEntry l (o .number) (after (c .first) k) (filled find lengthEntry (c .first) k x)) (numberOf find (c .first) k) (cut (valueOf (c .word)))) (m .is));
             }

@@ -24,17 +24,29 @@ fn byte_of(number: usize) -> u8
     255
 }
 
-// The entries of a vertex, where the tables have room for them.
-fn put(parents: &mut [u8], numerators: &mut [i64], number: usize, parent: usize, numerator: i64)
+// The parent of a vertex, where the table has room for it; its numerator, likewise; both.
+fn put_parent(parents: &mut [u8], number: usize, parent: usize)
     ensures { λ _. ⌜ now (parents .exit) ≡ set (now (parents .entry)) number (byteOf parent) ⌝ }
-    ensures { λ _. ⌜ now (numerators .exit) ≡ set (now (numerators .entry)) number numerator ⌝ }
 {
     if number < parents.len() {
         parents[number] = byte_of(parent);
     }
+}
+
+fn put_numerator(numerators: &mut [i64], number: usize, numerator: i64)
+    ensures { λ _. ⌜ now (numerators .exit) ≡ set (now (numerators .entry)) number numerator ⌝ }
+{
     if number < numerators.len() {
         numerators[number] = numerator;
     }
+}
+
+fn put(parents: &mut [u8], numerators: &mut [i64], number: usize, parent: usize, numerator: i64)
+    ensures { λ _. ⌜ now (parents .exit) ≡ set (now (parents .entry)) number (byteOf parent) ⌝ }
+    ensures { λ _. ⌜ now (numerators .exit) ≡ set (now (numerators .entry)) number numerator ⌝ }
+{
+    put_parent(parents, number, parent);
+    put_numerator(numerators, number, numerator);
 }
 
 // The vertex at a place, where `next` is the next number for a bracket and the names are the `n` from `from` on.
@@ -90,7 +102,16 @@ fn children(
             next: child.next + 1,
         };
     }
-    let others = children(text, end + 1, child.next, names, from, n, parents, numerators);
+    let others = children(
+        text,
+        end + 1,
+        child.next,
+        names,
+        from,
+        n,
+        parents,
+        numerators,
+    );
     put(parents, numerators, child.number, others.number, numerator);
     others
 }

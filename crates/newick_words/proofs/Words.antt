@@ -13,7 +13,7 @@ use lib.Seq.{slice, getD-drop, drop-drop}
 use Rattle.exact.proofs.Decide.{by-cases}
 use Rattle.exact.proofs.Sign.{natAbs-neg}
 use Rattle.digits.specs.Digits.{run, isDigit, most, atMost, numberFrom}
-use Rattle.digits.proofs.Reading.{inside, slice-is, cut-again, low-cut, high-cut}
+use Rattle.digits.proofs.Reading.{inside, slice-is, cut-again, low-cut, high-cut, cut-most}
 use Rattle.names.specs.Name.{maxName, isNameByte}
 use Rattle.newick_text.specs.Length.{signSize, wholeSize, pointAt, magnitudeOf, lengthSize, lengthThere, valueOf}
 use Rattle.newick_text.proofs.Lengths.{told, sign-one}
@@ -24,6 +24,12 @@ pub cut-neg : (n : ℕ) → cut (negℤ (pos n)) ≡ negℤ (pos (atMost n))
 unfolding cut
 cut-neg zero = refl
 cut-neg (suc n) = refl
+
+-- no cut number is beyond 10^15
+pub cut-small : (z : ℤ) → natAbs (cut z) ≤ most
+unfolding cut
+cut-small (pos n) = cut-most n
+cut-small (negsuc n) = rw natAbs-neg (cut-most (suc n))
 
 -- what is not beyond 10^15 is left as it is
 pub cut-in : (z : ℤ) → natAbs (cut z) < most → cut z ≡ z
