@@ -87,6 +87,17 @@ module _ (K : ℕ) (ns : List ℤ) where
       same : (z : ℤ) → natAbs z ≤ maxNumerator → cut z ≡ z
       same z g = cut-in z (omega (arith, cut-abs z, low-cut (natAbs z) (omega arith)))
 
+-- ---- room for so many edges, or not
+module _ (N K : ℕ) (p : List ℕ) (x : List ℤ) where
+  abbrev asked : Answer
+  asked = treeTests N (take K p) orElse lengthsTests K thousand (take K x)
+
+  pub tests-many : maxEdges < K → test 8 true ≡ tableTests N K p x
+  tests-many h = sym (ap (λ (q : Bool). cond q (test 8 true) asked) (lt-ltb maxEdges K h))
+
+  pub tests-few : K ≤ maxEdges → tableTests N K p x ≡ asked
+  tests-few h = ap (λ (q : Bool). cond q (test 8 true) asked) (le-ltb maxEdges K h)
+
 -- ---- the tables of a row
 module _ (find : List ℕ → ℕ) (N : ℕ) (r : Row) where
   abbrev K : ℕ
@@ -129,12 +140,9 @@ module _ (find : List ℕ → ℕ) (N : ℕ) (r : Row) where
   -- 29 does not apply: the tests of the tables are those of the row
   pub tests-are : strainsOut N ≡ false → namesWrong find N r ≡ false → tableTests N K P X ≡ rowTests find N r
   tests-are h w = by-cases (decLt maxEdges K)
-      (λ many. here true (lt-ltb maxEdges K many) ∙ sym (many-tests h many (lengthsTests K thousand (numeratorsIn find N r))) ∙ named)
-      (λ few. here false (le-ltb maxEdges K (omega arith)) ∙ few-tests (omega arith) ∙ named)
+      (λ many. sym (tests-many N K P X many) ∙ sym (many-tests h many (lengthsTests K thousand (numeratorsIn find N r))) ∙ named)
+      (λ few. tests-few N K P X (omega arith) ∙ few-tests (omega arith) ∙ named)
     where
-      here : (b : Bool) → ltb maxEdges K ≡ b → tableTests N K P X ≡ cond b (test 8 true) (treeTests N (take K P) orElse lengthsTests K thousand (take K X))
-      here b e = ap (λ (q : Bool). cond q (test 8 true) (treeTests N (take K P) orElse lengthsTests K thousand (take K X))) e
-
       named : (treeTests N (parentsIn find N r) orElse lengthsTests K thousand (numeratorsIn find N r)) ≡ rowTests find N r
       named = sym (ap (λ (q : Bool). test 29 q orElse treeTests N (parentsIn find N r) orElse lengthsTests K thousand (numeratorsIn find N r)) w)
 

@@ -16,6 +16,7 @@ ghost use Rattle.verdict.specs.Answer.{answerOf};
 ghost use Rattle.verdict.specs.Table.{some};
 ghost use Rattle.matrix.specs.Limits.{maxStrains};
 ghost use Rattle.matrix.specs.Tests.{strainsOut};
+ghost use Rattle.tree_theory.specs.Limits.{maxEdges};
 ghost use Rattle.records.specs.Names.{nameStart};
 ghost use Rattle.records.specs.Form.{headSize};
 ghost use Rattle.names.specs.Record.{placeOf};
@@ -74,7 +75,7 @@ fn unused(parents: &[u8], n: usize) -> bool
 
 // 8, 10, 13: the tree and the lengths as they are asked anywhere.
 fn judged(n: usize, edges: usize, found: Tables) -> Verdict
-    requires { ⌜ n ≤ maxStrains ⌝ }
+    requires { ⌜ (n ≤ maxStrains) × (length (found .parents) ≡ maxEdges) × (length (found .numerators) ≡ maxEdges) ⌝ }
     ensures { λ r. ⌜ answerOf r ≡ tableTests n edges (found .parents) (found .numerators) ⌝ }
 {
     if edges > Tree::MAX_EDGES {
