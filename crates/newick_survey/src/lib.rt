@@ -51,7 +51,16 @@ fn fill_tables(names: &[u8], n: usize, text: &[u8]) -> Tables
 {
     let mut parents = tree::no_parents();
     let mut numerators = tree::edge_zeros();
-    newick_fill::vertex(text, 0, n, names, Layout::HEAD, n, &mut parents, &mut numerators);
+    newick_fill::vertex(
+        text,
+        0,
+        n,
+        names,
+        Layout::HEAD,
+        n,
+        &mut parents,
+        &mut numerators,
+    );
     Tables {
         parents,
         numerators,
