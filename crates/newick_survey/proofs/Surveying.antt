@@ -35,6 +35,7 @@ use Rattle.newick_text.specs.Tree.{Row, node, textThen, Text, maxOpen}
 use Rattle.newick_text.specs.Table.{filled}
 use Rattle.newick_text.specs.Tests.{thousand, edgesIn, parentsIn, numeratorsIn, namesWrong, rowTests}
 use Rattle.newick_text.specs.Count.{occurs}
+use Rattle.newick_text.proofs.Unique.{one-row}
 use Rattle.newick_text.proofs.Counting.{commas, openings, row-number}
 use Rattle.newick_text.proofs.Using.{names-right, names-many, names-missing}
 use Rattle.newick_text.proofs.Filling.{filled-length}
@@ -43,7 +44,7 @@ use Rattle.newick_fill.specs.declared.Step.{Step}
 use Rattle.newick_fill.specs.Fill.{parentEntry, lengthEntry, Vertex, Took}
 use Rattle.newick_survey.specs.declared.Tables.{Tables}
 use Rattle.newick_survey.specs.declared.Survey.{Survey}
-use Rattle.newick_survey.specs.Text.{headTests, tableTests, Entered, TextSurvey, formless, formed, Surveys, unnamed, named}
+use Rattle.newick_survey.specs.Text.{findIn, headTests, tableTests, Entered, Held, TextSurvey, formless, formed, Answered, by-names, by-form, by-row, Surveyed}
 use Rattle.newick_survey.proofs.Fronts.{tests-are, passes-few, passes-lengths, parents-are, numerators-are, entry-unused, entry-used}
 
 -- ---- the root
@@ -138,8 +139,11 @@ module _ (names text : List ℕ) (n : Named) (a : NamesAnswer names n) (o : Bool
   head-is = eh ∙ ap₂ (λ (x y : Answer). x orElse y) (a .answer) (es ∙ ap (test 6) eo)
       ∙ same-head (namesTests names) (test 6 (strainsOut (n .count))) (test 6 (strainsOut (recordCount names))) (λ ok. ap (λ (k : ℕ). test 6 (strainsOut k)) (a .count ok))
 
-  pub survey-unnamed : (f : Refusal) → h ≡ Refused f → (v : Survey) → v .verdict ≡ Refused f → Surveys names text v
-  survey-unnamed f e v ev = unnamed (λ ok. not-pass f (sym (ap answerOf e) ∙ head-is ∙ ok)) (ap answerOf ev ∙ sym (ap answerOf e) ∙ head-is)
+  pub survey-unnamed : (f : Refusal) → h ≡ Refused f → (v : Survey) → v .verdict ≡ Refused f → Surveyed names text v
+  survey-unnamed f e v ev = record {
+    answer = by-names (λ ok. not-pass f (sym (ap answerOf e) ∙ head-is ∙ ok)) (ap answerOf ev ∙ sym (ap answerOf e) ∙ head-is);
+    held = λ ok. absurd (not-pass f (sym (ap answerOf ev) ∙ ok));
+  }
 
   module _ (e : h ≡ Accepted) where
     passed : headTests names ≡ pass
@@ -157,5 +161,12 @@ module _ (names text : List ℕ) (n : Named) (a : NamesAnswer names n) (o : Bool
       omega (arith, ap (nameStart names headSize) count-is, lent-within names (both .0)),
     )
 
-    pub survey-named : (v : Survey) → TextSurvey (placeOf names headSize (n .count)) (n .count) text v → Surveys names text v
-    survey-named v t = named passed (subst (λ (k : ℕ). TextSurvey (placeOf names headSize k) k text v) count-is t)
+    pub survey-named : (v : Survey) → TextSurvey (placeOf names headSize (n .count)) (n .count) text v → Surveyed names text v
+    survey-named v t = go (subst (λ (k : ℕ). TextSurvey (placeOf names headSize k) k text v) count-is t)
+      where
+        go : TextSurvey (findIn names) (recordCount names) text v → Surveyed names text v
+        go (formless n e) = record { answer = by-form passed n e; held = λ ok. absurd (refuses 28 Nowhere (sym e ∙ ok)) }
+        go (formed r x s) = record {
+          answer = by-row passed r x (s .answer);
+          held = λ ok q y. subst (λ (w : Row). Held (findIn names) (recordCount names) w v) (one-row text r q x y) (s .held (sym (s .answer) ∙ ok));
+        }

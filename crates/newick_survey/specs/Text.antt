@@ -57,7 +57,12 @@ pub data TextSurvey (find : List ℕ → ℕ) (N : ℕ) (text : List ℕ) (v : S
   formless : ((r : Row) → Text text r → ⊥) → answerOf (v .verdict) ≡ test 28 true → TextSurvey find N text v
   formed : (r : Row) → Text text r → RowSurvey find N r v → TextSurvey find N text v
 
--- names, and the text where they pass
-pub data Surveys (names text : List ℕ) (v : Survey) : Type 0 where
-  unnamed : (headTests names ≡ pass → ⊥) → answerOf (v .verdict) ≡ headTests names → Surveys names text v
-  named : headTests names ≡ pass → TextSurvey (findIn names) (recordCount names) text v → Surveys names text v
+-- the answer to names and a text, where `rows` says what a row of the form is answered: by the names, by the form, or by the row
+pub data Answered (names text : List ℕ) (rows : Row → Answer) (a : Answer) : Type 0 where
+  by-names : (headTests names ≡ pass → ⊥) → a ≡ headTests names → Answered names text rows a
+  by-form : headTests names ≡ pass → ((r : Row) → Text text r → ⊥) → a ≡ test 28 true → Answered names text rows a
+  by-row : headTests names ≡ pass → (r : Row) → Text text r → a ≡ rows r → Answered names text rows a
+
+pub record Surveyed (names text : List ℕ) (v : Survey) : Type 0 where
+  pub answer : Answered names text (rowTests (findIn names) (recordCount names)) (answerOf (v .verdict))
+  pub held : answerOf (v .verdict) ≡ pass → (r : Row) → Text text r → Held (findIn names) (recordCount names) r v

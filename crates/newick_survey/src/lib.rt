@@ -22,7 +22,7 @@ ghost use Rattle.records.specs.Form.{headSize};
 ghost use Rattle.names.specs.Record.{placeOf};
 ghost use Rattle.newick_text.specs.Tree.{Row, Text};
 ghost use Rattle.newick_form.specs.Form.{Found};
-ghost use Rattle.newick_survey.specs.Text.{tableTests, Entered, TextSurvey, Surveys};
+ghost use Rattle.newick_survey.specs.Text.{tableTests, Entered, TextSurvey, Surveyed};
 
 // Lengths are thousandths.
 const DENOMINATOR: u32 = 1000;
@@ -160,7 +160,7 @@ fn of_text(names: &[u8], n: usize, text: &[u8]) -> Survey
 
 // 2 to 5 and 28 for the names, 6, then the text.
 pub fn survey_text(names: &[u8], text: &[u8]) -> Survey
-    ensures { λ v. ⌜ Surveys (now (names .entry)) (now (text .entry)) v ⌝ }
+    ensures { λ v. ⌜ Surveyed (now (names .entry)) (now (text .entry)) v ⌝ }
 {
     let named = names::check_names(names);
     let n = named.count;
