@@ -7,3 +7,10 @@ pub mod Once
 pub mod Back
 pub mod Round
 pub mod Risen
+pub mod Runs
+pub mod Lengths
+pub mod Thousandths
+pub mod Unique
+pub mod Counting
+pub mod Using
+pub mod Filling

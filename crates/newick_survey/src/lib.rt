@@ -1,0 +1,174 @@
+// A text beside a names record, gone through once: what they are refused for, or how many strains and edges there are and the tables. The
+// form is judged first and the leaves are counted, so that the filling, which calls itself for each vertex, meets few.
+use matrix::Matrix;
+use records::Layout;
+use tree::Tree;
+use verdict::Place;
+use verdict::Reason;
+use verdict::Refusal;
+use verdict::Verdict;
+ghost use mathlib.Core.Path.{_≡_};
+ghost use mathlib.Core.Bool.{false};
+ghost use Prim.Native.Nat.{_≤_};
+ghost use lib.Dec.{eqb};
+ghost use lib.ListN.{length, getD};
+ghost use Rattle.verdict.specs.Answer.{answerOf};
+ghost use Rattle.verdict.specs.Table.{some};
+ghost use Rattle.matrix.specs.Limits.{maxStrains};
+ghost use Rattle.matrix.specs.Tests.{strainsOut};
+ghost use Rattle.tree_theory.specs.Limits.{maxEdges};
+ghost use Rattle.records.specs.Names.{nameStart};
+ghost use Rattle.records.specs.Form.{headSize};
+ghost use Rattle.names.specs.Record.{placeOf};
+ghost use Rattle.newick_text.specs.Tree.{Row, Text};
+ghost use Rattle.newick_form.specs.Form.{Found};
+ghost use Rattle.newick_survey.specs.Text.{tableTests, Entered, TextSurvey, Surveyed};
+
+// Lengths are thousandths.
+const DENOMINATOR: u32 = 1000;
+
+// 6: whether a count is not one of strains.
+fn strains_out(n: usize) -> bool
+    ensures { λ r. ⌜ r ≡ strainsOut n ⌝ }
+{
+    if n < Matrix::MIN_STRAINS {
+        return true;
+    }
+    n > Matrix::MAX_STRAINS
+}
+
+// The parents and the numerators of a text, each in a table for as many edges as a tree may have.
+pub struct Tables {
+    pub parents: [u8; Tree::MAX_EDGES],
+    pub numerators: [i64; Tree::MAX_EDGES],
+}
+
+// The tables of a text of the form, where the `n` names of a record are known to stand in it.
+fn fill_tables(names: &[u8], n: usize, text: &[u8]) -> Tables
+    requires { ⌜ (n ≤ maxStrains) × (nameStart (now names) headSize n ≤ length (now names)) ⌝ }
+    requires { ⌜ Found (now text) ⌝ }
+    ensures { λ t. ⌜ ((r : Row) → Text (now (text .entry)) r → Entered (placeOf (now (names .entry)) headSize n) n r t) ⌝ }
+{
+    let mut parents = tree::no_parents();
+    let mut numerators = tree::edge_zeros();
+    newick_fill::vertex(
+        text,
+        0,
+        n,
+        names,
+        Layout::HEAD,
+        n,
+        &mut parents,
+        &mut numerators,
+    );
+    Tables {
+        parents,
+        numerators,
+    }
+}
+
+// Whether one of the first entries of a table of parents is still 0.
+fn unused(parents: &[u8], n: usize) -> bool
+    requires { ⌜ n ≤ length (now parents) ⌝ }
+    ensures { λ r. ⌜ r ≡ some n (λ i. eqb (getD (now (parents .entry)) i 0) 0) ⌝ }
+{
+    let mut i = 0;
+    while i < n {
+        if parents[i] == 0 {
+            return true;
+        }
+        i += 1;
+    }
+    false
+}
+
+// 8, 10, 13: the tree and the lengths as they are asked anywhere.
+fn judged(n: usize, edges: usize, found: Tables) -> Verdict
+    requires { ⌜ (n ≤ maxStrains) × (length (found .parents) ≡ maxEdges) × (length (found .numerators) ≡ maxEdges) ⌝ }
+    ensures { λ r. ⌜ answerOf r ≡ tableTests n edges (found .parents) (found .numerators) ⌝ }
+{
+    if edges > Tree::MAX_EDGES {
+        return Verdict::Refused(Refusal {
+            reason: Reason::Vertices,
+            place: Place::Nowhere,
+        });
+    }
+    let parents = found.parents;
+    let numerators = found.numerators;
+    let of_tree = tree::check_tree(n as u32, &parents[..edges]);
+    let of_lengths = lengths::check_lengths(edges, DENOMINATOR, &numerators[..edges]);
+    verdict::or_else(of_tree, of_lengths)
+}
+
+// What a text shows: the answer, and where it passes how many strains and edges there are, and the tables at the front of their room.
+pub struct Survey {
+    pub verdict: Verdict,
+    pub strains: usize,
+    pub edges: usize,
+    pub parents: [u8; Tree::MAX_EDGES],
+    pub numerators: [i64; Tree::MAX_EDGES],
+}
+
+// A text that is refused.
+fn refused(refusal: Refusal) -> Survey
+    ensures { λ v. ⌜ v .verdict ≡ Verdict.Refused refusal ⌝ }
+{
+    Survey {
+        verdict: Verdict::Refused(refusal),
+        strains: 0,
+        edges: 0,
+        parents: tree::no_parents(),
+        numerators: tree::edge_zeros(),
+    }
+}
+
+// 28, 29, 8, 10, 13, the first that applies to a text beside the `n` names of a record.
+fn of_text(names: &[u8], n: usize, text: &[u8]) -> Survey
+    requires { ⌜ (strainsOut n ≡ false) × (nameStart (now names) headSize n ≤ length (now names)) ⌝ }
+    ensures { λ v. ⌜ TextSurvey (placeOf (now (names .entry)) headSize n) n (now (text .entry)) v ⌝ }
+{
+    if !newick_form::is_text(text) {
+        return refused(Refusal {
+            reason: Reason::Newick,
+            place: Place::Nowhere,
+        });
+    }
+    if newick_form::count_byte(text, b',') + 1 != n {
+        return refused(Refusal {
+            reason: Reason::Names,
+            place: Place::Nowhere,
+        });
+    }
+    let found = fill_tables(names, n, text);
+    let parents = found.parents;
+    let numerators = found.numerators;
+    if unused(&parents, n) {
+        return refused(Refusal {
+            reason: Reason::Names,
+            place: Place::Nowhere,
+        });
+    }
+    let edges = n + newick_form::count_byte(text, b'(') - 1;
+    Survey {
+        verdict: judged(n, edges, found),
+        strains: n,
+        edges,
+        parents,
+        numerators,
+    }
+}
+
+// 2 to 5 and 28 for the names, 6, then the text.
+pub fn survey_text(names: &[u8], text: &[u8]) -> Survey
+    ensures { λ v. ⌜ Surveyed (now (names .entry)) (now (text .entry)) v ⌝ }
+{
+    let named = names::check_names(names);
+    let n = named.count;
+    let of_names = named.verdict;
+    let of_strains = refusing::test(Reason::Strains, strains_out(n));
+    let head = verdict::or_else(of_names, of_strains);
+    if let Verdict::Refused(refusal) = head {
+        return refused(refusal);
+    }
+    of_text(names, n, text)
+}
