@@ -21,8 +21,7 @@ ghost use Rattle.newick_tree.specs.Tree.{inputSize, recordEnd, rowOf, tr
 
 // How much of the input is looked at: the longest names record that passes, the longest text, and a byte more, so that a longer text is
 // refused for its length.
-const INPUT: usize =
-    Layout::HEAD + (Layout::MAX_NAME + 1) * Matrix::MAX_STRAINS + MAX_TEXT + 1;
+const INPUT: usize = Layout::HEAD + (Layout::MAX_NAME + 1) * Matrix::MAX_STRAINS + MAX_TEXT + 1;
 
 // Room for it.
 fn room() -> [u8; INPUT]
