@@ -1,0 +1,54 @@
+-- One entry a turn, from the front.
+use mathlib.Core.Path.{refl}
+use Prim.Native.Nat.{_-_}
+use native.Mathlib.Omega.{arith}
+use borrow.Author.Needs.{needs}
+use lib.ListN.{length, length-set}
+use Rattle.newick_read.proofs.Reading.{Putting, put-start, put-turn, put-end}
+use Rattle.newick_read.proofs.put_parents.Statement.{statement}
+use Rattle.newick_read.proofs.put_parents.Tie as tie
+
+abbrev Inv-loop : tie.InvT-loop
+Inv-loop buffer₀ table i₀ buffer i = Putting 0 buffer₀ table i buffer
+
+abbrev μ-loop : tie.MeasureT-loop
+μ-loop buffer₀ table i₀ buffer i = length buffer - i
+
+loop-holds : tie.Need-loop-holds Inv-loop μ-loop
+loop-holds c = put-start 0 _ _
+
+shared-slice-read-buffer : tie.Need-shared-slice-read-buffer Inv-loop μ-loop
+shared-slice-read-buffer c = let l = c .before .before in omega (arith, l .before .pre, l .loop .inv .size, c .before .loop-test .taken)
+
+slice-write-buffer : tie.Need-slice-write-buffer Inv-loop μ-loop
+slice-write-buffer c = search needs
+
+add-i : tie.Need-add-i Inv-loop μ-loop
+add-i c = search needs
+
+loop-less : tie.Need-loop-less Inv-loop μ-loop
+loop-less c = let l = c .before .before in simp length-set (omega (arith, c .before .loop-test .taken))
+
+loop-again : tie.Need-loop-again Inv-loop μ-loop
+loop-again c = let l = c .before .before in put-turn 0 _ _ (l .loop .i) (l .loop .buffer) _ (c .before .loop-test .taken) refl (l .loop .inv)
+
+same-length : tie.Need-same-length Inv-loop μ-loop
+same-length c = c .before .loop .inv .size
+
+returns : tie.Need-returns Inv-loop μ-loop
+returns c = let l = c .before in put-end 0 (l .before .args .buffer .now) (l .before .args .table .now) (l .loop .i) (l .loop .buffer) (c .loop-test .left) (l .before .pre) (l .loop .inv)
+
+pub put-parents-spec : {M : Type 1} → statement M
+put-parents-spec =
+    tie.close
+    (tie.spec
+    Inv-loop
+    μ-loop
+    loop-holds
+    shared-slice-read-buffer
+    slice-write-buffer
+    add-i
+    loop-less
+    loop-again
+    same-length
+    returns)
