@@ -4,11 +4,13 @@ use mathlib.Core.Bool.{Bool, true, false}
 use mathlib.Core.List.{List}
 use mathlib.Core.Logic.{_⊎_, inl, inr, ⊎-elim}
 use Prim.Native.Nat.{ℕ, zero, suc, _+_, _-_, _<_, _≤_}
+use native.Mathlib.Decide.{decLt, ℕ-discrete}
 use native.Mathlib.Nat.{le-refl}
 use native.Mathlib.Omega.{arith}
 use borrow.Author.Tests.{eqb-true, eqb-false}
 use lib.Dec.{eqb}
 use lib.ListN.{getD}
+use Rattle.exact.proofs.Decide.{by-cases}
 use Rattle.newick_text.specs.Tree.{Tree, leaf, node, Row, none, some}
 use Rattle.newick_text.specs.Table.{pickRow, rowFrom, treeOf, childrenOf, after, rowAfter, numberOf}
 use Rattle.newick_text.proofs.Trees.{leaf-is, node-is, children-are}
@@ -104,6 +106,22 @@ module _ (find : List ℕ → ℕ) where
       go ih true s f = inl (eqb-true u (numberOf find t k) s)
       go ih false s f = ⊎-elim (λ i. inr (ih (i .1))) (λ i. absurd (inner (i .1))) (from-first (rowLook find r v (after t k) u) (look find t k u) v f)
 
+-- every bracket of a tree has P
+unfoldable mutual
+  pub Brackets : (Row → Type 0) → Tree → Type 0
+  Brackets P (leaf n) = Unit
+  Brackets P (node r) = P r × RowBrackets P r
+
+  pub RowBrackets : (Row → Type 0) → Row → Type 0
+  RowBrackets P none = Unit
+  RowBrackets P (some t l r) = Brackets P t × RowBrackets P r
+
+-- a tree that is a bracket with P
+pub record Bracket (P : Row → Type 0) (t : Tree) : Type 0 where
+  pub children : Row
+  pub is : t ≡ node children
+  pub has : P children
+
 -- ---- the theorem, over tables whose entries below R are those of E
 module _ (find : List ℕ → ℕ) (q : List ℕ) (name long : ℕ → List ℕ) (n R : ℕ) (E : ℕ → Found) (some-leaf : 0 < n)
     (knows : (l : List ℕ) → find l < n → name (find l) ≡ l)
@@ -183,6 +201,27 @@ module _ (find : List ℕ → ℕ) (q : List ℕ) (name long : ℕ → List ℕ)
           rising r v (after t k) (suc (numberOf find t k)) (omega arith) m b (f .3) (own-rest t l r v k h m o),
         )
 
+  -- the tree of every inner vertex is a bracket of the tree
+  module _ (P : Row → Type 0) where
+    mutual
+      unfolding Fits Owns RowOwns Brackets after numberOf look
+
+      bracket-at : (t : Tree) (k : ℕ) → n ≤ k → after t k ≤ suc R → Fits find n E t k → Owns t k → Brackets P t → (v : ℕ) → k ≤ v → v < after t k → Bracket P (again v)
+      bracket-at (leaf l) k h m f o b v lo hi = absurd (omega arith)
+      bracket-at (node r) k h m f o b v lo hi =
+          let below : v < rowAfter r k → Bracket P (again v) = λ l. row-bracket-at r (rowAfter r k) k 0 h (le-refl (rowAfter r k)) (omega arith) f (λ u x c g i e. o u x c g (omega arith) e) (b .1) v lo l in
+          by-cases (ℕ-discrete v (rowAfter r k))
+          (λ e. record { children = r; is = ap again e ∙ back (node r) k h m f o; has = b .0 })
+          (λ e. below (omega arith))
+
+      row-bracket-at : (r : Row) (w k x : ℕ) → n ≤ k → rowAfter r k ≤ w → w ≤ R → RowFits find n E r w k x → RowOwns r w k → RowBrackets P r → (v : ℕ) → k ≤ v → v < rowAfter r k → Bracket P (again v)
+      row-bracket-at none w k x h m c f o b v lo hi = absurd (omega arith)
+      row-bracket-at (some t l r) w k x h m c f o b v lo hi =
+          let up = row-up r (after t k) in
+          let first : v < after t k → Bracket P (again v) = λ y. bracket-at t k h (omega arith) (f .2) (own-first t l r w k h m o) (b .0) v lo y in
+          let rest : after t k ≤ v → Bracket P (again v) = λ y. row-bracket-at r w (after t k) (suc (numberOf find t k)) (omega (arith, after-up t k)) m c (f .3) (own-rest t l r w k h m o) (b .1) v y hi in
+          by-cases (decLt v (after t k)) first (λ y. rest (omega arith))
+
 -- ---- of any tree whose strains all stand once and whose children rise, with tables that have an entry for each vertex below its root
 module _ (find : List ℕ → ℕ) (name : ℕ → List ℕ) (n : ℕ) (some-leaf : 0 < n) (knows : (l : List ℕ) → find l < n → name (find l) ≡ l)
     (r : Row) (o : Ordered find n (node r) n) (c : (u : ℕ) → uses find n (node r) u ≤ 1) (all : (u : ℕ) → u < n → 1 ≤ uses find n (node r) u) where
@@ -204,3 +243,9 @@ module _ (find : List ℕ → ℕ) (name : ℕ → List ℕ) (n : ℕ) (some-lea
 
   pub row-again : (q : List ℕ) (long : ℕ → List ℕ) → ((u : ℕ) → u < K → getD q u 0 ≡ bracketIn (E u)) → ((u v : ℕ) (l : List ℕ) → u < K → E u ≡ below v l → long u ≡ l) → childrenOf q name long n K ≡ r
   row-again q long p m = let e : node (childrenOf q name long n K) ≡ node r = sym (node-is q name long n K (row-up r n)) ∙ tree-again q long p m in cc
+
+  pub brackets-again : (P : Row → Type 0) (q : List ℕ) (long : ℕ → List ℕ) → ((u : ℕ) → u < K → getD q u 0 ≡ bracketIn (E u)) → ((u v : ℕ) (l : List ℕ) → u < K → E u ≡ below v l → long u ≡ l)
+      → Brackets P (node r) → (v : ℕ) → n ≤ v → v ≤ K → Bracket P (treeOf q name long n v)
+  unfolding Owns after numberOf
+  brackets-again P q long p m b v lo hi =
+      bracket-at find q name long n K E some-leaf knows p m P (node r) n (le-refl n) (le-refl (suc K)) (fits find n E (node r) n (le-refl n) o c (λ u z. refl)) (λ u x z g i e. sym (p u z) ∙ e) b v lo (omega arith)

@@ -7,6 +7,7 @@ pub mod Once
 pub mod Back
 pub mod Round
 pub mod Risen
+pub mod Accepted
 pub mod Runs
 pub mod Lengths
 pub mod Thousandths

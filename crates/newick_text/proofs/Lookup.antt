@@ -8,10 +8,11 @@ use native.Mathlib.Nat.{le-refl}
 use native.Mathlib.Omega.{arith}
 use borrow.Author.Tests.{eqb-true, eqb-false}
 use lib.Dec.{eqb}
-use lib.ListN.{length, getD, set, length-set}
+use lib.ListN.{length, getD, set}
 use lib.Seq.{getD-set-same, getD-set-other}
 use Rattle.newick_text.specs.Tree.{Tree, leaf, node, Row, none, some}
 use Rattle.newick_text.specs.Table.{after, rowAfter, numberOf, filled, rowFilled}
+use Rattle.newick_text.proofs.Filling.{filled-length, row-length}
 
 -- ---- what a lookup finds: nothing, or a bracket's number and a length
 pub data Found : Type 0 where
@@ -66,19 +67,6 @@ mutual
   row-up (some t l r) k = omega (arith, after-up t k, row-up r (after t k))
 
 module _ {A : Type 0} (find : List ℕ → ℕ) (entry : ℕ → List ℕ → A) where
-  -- ---- lengths stay
-  mutual
-    unfolding filled
-
-    pub filled-length : (t : Tree) (k : ℕ) (p : List A) → length (filled find entry t k p) ≡ length p
-    filled-length (leaf n) k p = refl
-    filled-length (node r) k p = row-length r (rowAfter r k) k p
-
-    pub row-length : (r : Row) (v k : ℕ) (p : List A) → length (rowFilled find entry r v k p) ≡ length p
-    row-length none v k p = refl
-    row-length (some t l r) v k p =
-        length-set (rowFilled find entry r v (after t k) (filled find entry t k p)) (numberOf find t k) (entry v l) ∙ row-length r v (after t k) (filled find entry t k p) ∙ filled-length t k p
-
   -- ---- what stands in the table
   first-entry : (a b : Found) (d : A) → entryIn entry a (entryIn entry b d) ≡ entryIn entry (first a b) d
   first-entry missing b d = refl
@@ -105,10 +93,10 @@ module _ {A : Type 0} (find : List ℕ → ℕ) (entry : ℕ → List ℕ → A)
     row-look none v k p u d b = refl
     row-look (some t l r) v k p u d b =
         let inner = filled-look t k p u d b in
-        let rest = row-look r v (after t k) (filled find entry t k p) u d (omega (arith, filled-length t k p)) in
+        let rest = row-look r v (after t k) (filled find entry t k p) u d (omega (arith, filled-length find entry t k p)) in
         let here = rowLook find r v (after t k) u in
         let same = where-same (eqb u (numberOf find t k)) (below v l) in
-        set-look (rowFilled find entry r v (after t k) (filled find entry t k p)) (numberOf find t k) v l u d (omega (arith, row-length r v (after t k) (filled find entry t k p), filled-length t k p))
+        set-look (rowFilled find entry r v (after t k) (filled find entry t k p)) (numberOf find t k) v l u d (omega (arith, row-length find entry r v (after t k) (filled find entry t k p), filled-length find entry t k p))
         ∙ ap (entryIn entry same) (rest ∙ ap (entryIn entry here) inner ∙ first-entry here (look find t k u) (getD p u d))
         ∙ first-entry same (first here (look find t k u)) (getD p u d)
 

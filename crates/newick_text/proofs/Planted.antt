@@ -18,20 +18,9 @@ use Rattle.tree_theory.specs.Allowed.{Allowed, children}
 use Rattle.newick_text.specs.Length.{isLength}
 use Rattle.newick_text.specs.Tree.{Tree, leaf, node, Row, none, some, Some, tally, rowTally, sizeOf, bracketsOf, leavesWith, Formed, RowFormed, maxOpen}
 use Rattle.newick_text.specs.Table.{pickRow, rowFrom, treeOf, childrenOf, after, rowAfter}
+use Rattle.newick_text.proofs.Counting.{rows-number}
 use Rattle.newick_text.proofs.Trees.{leaf-is, node-is}
 use Rattle.newick_text.proofs.Totals.{add, add-none, add-more, add-same, add-most, total}
-
--- ---- numbers rise by brackets
-mutual
-  unfolding after tally
-
-  pub after-is : (t : Tree) (k : ℕ) → after t k ≡ k + bracketsOf t
-  after-is (leaf n) k = omega arith
-  after-is (node r) k = omega (arith, row-after-is r k)
-
-  pub row-after-is : (r : Row) (k : ℕ) → rowAfter r k ≡ k + rowTally (λ _. 0) (λ _. 0) 1 r
-  row-after-is none k = omega arith
-  row-after-is (some t l r) k = omega (arith, row-after-is r (after t k), after-is t k)
 
 -- ---- sums of ones
 module _ (f : ℕ → ℕ) where
@@ -99,7 +88,7 @@ module _ (p : List ℕ) (name long : ℕ → List ℕ) (n K : ℕ) (ok : Allowed
   unfolding tally
   root-number =
       let is = ap bracketsOf (node-is p name long n K (omega (arith, ok .edges))) in
-      omega (arith, tree-brackets, row-after-is (childrenOf p name long n K) n, is)
+      omega (arith, tree-brackets, rows-number (childrenOf p name long n K) n, is)
 
   -- ---- every strain is a leaf once, and no other name stands in the tree
   module _ (find : List ℕ → ℕ) (knows : (i : ℕ) → i < n → find (name i) ≡ i) where

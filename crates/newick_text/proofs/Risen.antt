@@ -18,7 +18,8 @@ use Rattle.tree_theory.specs.Tests.{parentOut, parentFault}
 use Rattle.newick_text.specs.Tree.{Tree, leaf, node, Row, none, tally, rowTally, leavesWith}
 use Rattle.newick_text.specs.Table.{after, rowAfter, numberOf}
 use Rattle.newick_text.specs.Tests.{edgesIn, parentsIn}
-use Rattle.newick_text.proofs.Lookup.{Found, missing, below, first, where-same, There, bracketIn, entryIn, look, rowLook, after-up, row-up, filled-look, filled-length}
+use Rattle.newick_text.proofs.Lookup.{Found, missing, below, first, where-same, There, bracketIn, entryIn, look, rowLook, after-up, row-up, filled-look}
+use Rattle.newick_text.proofs.Filling.{filled-length}
 use Rattle.newick_text.proofs.Once.{uses, uses-look, lt-or}
 
 -- what is found is above u, and an inner vertex
@@ -85,7 +86,7 @@ module _ (find : List ℕ → ℕ) (n : ℕ) where
     unfolding after numberOf
     there u h = ⊎-elim (λ e. absurd (omega (arith, e))) (λ z. z) (uses-look find n (node r) n u (⊎-elim (λ z. inl (z, all u z)) (λ z. inr (z, z, omega arith)) (lt-or u n)))
 
-    parent-up : (u : ℕ) → u < K → (u < getD (parentsIn find n r) u 0) × (n ≤ getD (parentsIn find n r) u 0) × (getD (parentsIn find n r) u 0 ≤ K)
+    pub parent-up : (u : ℕ) → u < K → (u < getD (parentsIn find n r) u 0) × (n ≤ getD (parentsIn find n r) u 0) × (getD (parentsIn find n r) u 0 ≤ K)
     unfolding after
     parent-up u h =
         let is = filled-look find (λ v l. v) (node r) n (table K (λ _. 0)) u 0 (omega (arith, length-table {A = ℕ} K (λ _. 0))) in

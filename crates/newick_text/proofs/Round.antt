@@ -23,7 +23,7 @@ use Rattle.newick_text.proofs.Trees.{leaf-is, node-is}
 use Rattle.newick_text.proofs.Lookup.{Found, missing, below, first, where-same, bracketIn, entryIn, look, rowLook, row-up, filled-look}
 use Rattle.newick_text.proofs.Once.{Ordered, RowOrdered, uses, rowUses, lt-or}
 use Rattle.newick_text.proofs.Planted.{tree-uses, root-number}
-use Rattle.newick_text.proofs.Back.{row-again}
+use Rattle.newick_text.proofs.Back.{Brackets, Bracket, row-again, brackets-again}
 
 -- ---- every length of a tree
 unfoldable mutual
@@ -36,7 +36,7 @@ unfoldable mutual
   RowEach P (some t l r) = Each P t × P l × RowEach P r
 
 -- what is found of it
-abbrev Holds : (List ℕ → Type 0) → Found → Type 0
+abbrev pub Holds : (List ℕ → Type 0) → Found → Type 0
 Holds P missing = Unit
 Holds P (below v l) = P l
 
@@ -52,7 +52,7 @@ module _ (P : List ℕ → Type 0) (find : List ℕ → ℕ) where
   mutual
     unfolding Each look
 
-    look-each : (t : Tree) (k u : ℕ) → Each P t → Holds P (look find t k u)
+    pub look-each : (t : Tree) (k u : ℕ) → Each P t → Holds P (look find t k u)
     look-each (leaf n) k u h = tt
     look-each (node r) k u h = row-each r (rowAfter r k) k u h
 
@@ -63,7 +63,7 @@ module _ (P : List ℕ → Type 0) (find : List ℕ → ℕ) where
         (first-holds P (rowLook find r v (after t k) u) (look find t k u) (row-each r v (after t k) u (h .2)) (look-each t k u (h .0)))
 
 -- a length that is written as it stands
-abbrev Plain : List ℕ → Type 0
+abbrev pub Plain : List ℕ → Type 0
 Plain l = lengthText (valueOf l) ≡ l
 
 entry-bracket : (x : Found) → entryIn (λ v l. v) x 0 ≡ bracketIn x
@@ -86,15 +86,15 @@ module _ (find : List ℕ → ℕ) (n u : ℕ) (high : n ≤ u) where
 -- ---- a row whose strains all stand once, whose children rise and whose lengths are plain: the tree of its tables is that row
 module _ (find : List ℕ → ℕ) (name : ℕ → List ℕ) (n : ℕ) (some-leaf : 0 < n) (knows : (l : List ℕ) → find l < n → name (find l) ≡ l)
     (r : Row) (o : Ordered find n (node r) n) (once : (u : ℕ) → u < n → uses find n (node r) u ≡ 1) (plain : RowEach Plain r) where
-  few : (u : ℕ) → uses find n (node r) u ≤ 1
+  pub few : (u : ℕ) → uses find n (node r) u ≤ 1
   few u = ⊎-elim (λ h. omega (arith, once u h)) (λ h. omega (arith, unused find n u h (node r) n o)) (lt-or u n)
 
-  parent-is : (u : ℕ) → u < edgesIn find n r → getD (parentsIn find n r) u 0 ≡ bracketIn (look find (node r) n u)
+  pub parent-is : (u : ℕ) → u < edgesIn find n r → getD (parentsIn find n r) u 0 ≡ bracketIn (look find (node r) n u)
   parent-is u h =
       filled-look find (λ v l. v) (node r) n (table (edgesIn find n r) (λ _. 0)) u 0 (omega (arith, length-table {A = ℕ} (edgesIn find n r) (λ _. 0)))
       ∙ ap (entryIn (λ v l. v) (look find (node r) n u)) (getD-table-const (edgesIn find n r) 0 u) ∙ entry-bracket (look find (node r) n u)
 
-  length-is : (u v : ℕ) (l : List ℕ) → u < edgesIn find n r → look find (node r) n u ≡ below v l → lengthText (entryOf (numeratorsIn find n r) u) ≡ l
+  pub length-is : (u v : ℕ) (l : List ℕ) → u < edgesIn find n r → look find (node r) n u ≡ below v l → lengthText (entryOf (numeratorsIn find n r) u) ≡ l
   unfolding Each
   length-is u v l h e =
       let value : entryOf (numeratorsIn find n r) u ≡ valueOf l
@@ -102,10 +102,17 @@ module _ (find : List ℕ → ℕ) (name : ℕ → List ℕ) (n : ℕ) (some-lea
       ∙ ap (λ (x : Found). entryIn (λ v l. valueOf l) x (getD (table (edgesIn find n r) (λ _. pos 0)) u (pos 0))) e in
       ap lengthText value ∙ (rw e at (look-each Plain find (node r) n u plain))
 
-  pub same-row : childrenOf (parentsIn find n r) name (λ u. lengthText (entryOf (numeratorsIn find n r) u)) n (edgesIn find n r) ≡ r
-  same-row =
+  pub tables-row : childrenOf (parentsIn find n r) name (λ u. lengthText (entryOf (numeratorsIn find n r) u)) n (edgesIn find n r) ≡ r
+  tables-row =
       row-again find name n some-leaf knows r o few (λ u h. omega (arith, once u h))
       (parentsIn find n r) (λ u. lengthText (entryOf (numeratorsIn find n r) u)) parent-is length-is
+
+  -- and the tree of each inner vertex is a bracket of the row
+  pub tables-bracket : (P : Row → Type 0) → Brackets P (node r) → (v : ℕ) → n ≤ v → v ≤ edgesIn find n r
+      → Bracket P (treeOf (parentsIn find n r) name (λ u. lengthText (entryOf (numeratorsIn find n r) u)) n v)
+  tables-bracket P b v lo hi =
+      brackets-again find name n some-leaf knows r o few (λ u h. omega (arith, once u h)) P
+      (parentsIn find n r) (λ u. lengthText (entryOf (numeratorsIn find n r) u)) parent-is length-is b v lo hi
 
 -- ---- the tree of an allowed table is such a row
 module _ (p : List ℕ) (name : ℕ → List ℕ) (long : ℕ → List ℕ) (n K : ℕ) (ok : Allowed n K (parentOf p)) (find : List ℕ → ℕ) (finds : (i : ℕ) → i < n → find (name i) ≡ i) where
@@ -160,7 +167,7 @@ module _ (p : List ℕ) (name : ℕ → List ℕ) (long : ℕ → List ℕ) (n K
         go ih true = (inner w (omega arith), each w (omega arith), ih)
         go ih false = ih
 
-    table-each : (b v : ℕ) → v < b → v ≤ K → Each P (tree v)
+    pub table-each : (b v : ℕ) → v < b → v ≤ K → Each P (tree v)
     unfolding Each childrenOf
     table-each zero v l k = absurd (omega arith)
     table-each (suc b) v l k =
@@ -180,7 +187,18 @@ module _ (p : List ℕ) (name : ℕ → List ℕ) (long : ℕ → List ℕ) (n K
     unfolding Each
     row-read =
         let root = node-is p name long n K (omega (arith, ok .edges)) in
-        same-row find name n (omega (arith, ok .three)) knows row
+        tables-row find name n (omega (arith, ok .three)) knows row
         (rw root at (ordered (suc K) K n (omega arith) (le-refl n)))
         (λ u h. rw root at (tree-uses p name long n K ok find finds u h))
         (rw root at (table-each Plain plain (suc K) K (omega arith) (omega arith)))
+
+    pub bracket-read : (P : Row → Type 0) → Brackets P (node row) → (v : ℕ) → n ≤ v → v ≤ K
+        → Bracket P (treeOf (parentsIn find n row) name (λ u. lengthText (entryOf (numeratorsIn find n row) u)) n v)
+    unfolding Each
+    bracket-read P b v lo hi =
+        let root = node-is p name long n K (omega (arith, ok .edges)) in
+        tables-bracket find name n (omega (arith, ok .three)) knows row
+        (rw root at (ordered (suc K) K n (omega arith) (le-refl n)))
+        (λ u h. rw root at (tree-uses p name long n K ok find finds u h))
+        (rw root at (table-each Plain plain (suc K) K (omega arith) (omega arith)))
+        P b v lo (omega (arith, edges-again))
