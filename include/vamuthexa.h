@@ -101,7 +101,7 @@ enum { VAMUTHEXA_TREE_PAGE = VAMUTHEXA_TEXT_SIZE + 1 };
 /* Writes to the front of `text` what the program `newick` prints of a sheet with names, which has a fourth record of kind 5 behind its
  * lengths: its tree in Newick form and LF, or the line with the number and the place of its refusal. Returns how many bytes were written,
  * at most VAMUTHEXA_TREE_PAGE, and leaves all behind them as it was. Where `size` is below VAMUTHEXA_TREE_PAGE, it writes nothing and
- * returns 0. The two buffers may not overlap. Link with libpages.a. */
+ * returns 0. The two buffers may not overlap. Link with libnewick_pages.a. */
 size_t newick_print(const uint8_t *sheet, size_t length, uint8_t *text, size_t size);
 
 /* Writes a tree in Newick form to the front of `text`, which must have exactly VAMUTHEXA_TEXT_SIZE bytes; no fit is asked for. `names` is a names
