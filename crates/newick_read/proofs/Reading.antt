@@ -1,7 +1,7 @@
 -- What is gone through becomes the answer: the sizes, and the buffers. Room counts only where the row passes, and there it is room for the
 -- row's edges.
-use mathlib.Core.Path.{_≡_, refl, sym, _∙_, ap, ap₂, subst}
-use mathlib.Core.Bool.{Bool, true, false, not, _||_}
+use mathlib.Core.Path.{_≡_, refl, sym, _∙_, ap, subst}
+use mathlib.Core.Bool.{Bool, not, _||_}
 use mathlib.Core.List.{List}
 use Prim.Native.Nat.{ℕ, _+_, _≤_, _<_}
 use native.Mathlib.Omega.{arith}
@@ -22,11 +22,11 @@ use Rattle.verdict.proofs.Answers.{refuses, not-pass, orElse-pass, test-pass, o
 use Rattle.names.specs.Record.{recordCount}
 use Rattle.newick_text.specs.Length.{valueOf}
 use Rattle.newick_text.specs.Tree.{Row, node, Text}
-use Rattle.newick_text.specs.Tests.{edgesIn, parentsIn, numeratorsIn, rowTests, roomOut}
+use Rattle.newick_text.specs.Tests.{edgesIn, rowTests, roomOut}
 use Rattle.newick_text.proofs.Filling.{filled-length}
 use Rattle.newick_form.specs.Form.{Found}
 use Rattle.newick_survey.specs.declared.Survey.{Survey}
-use Rattle.newick_survey.specs.Text.{findIn, headTests, Held, Answered, by-names, by-form, by-row, Surveyed}
+use Rattle.newick_survey.specs.Text.{findIn, Held, Answered, by-names, by-form, by-row, Surveyed}
 use Rattle.newick_read.specs.Answers.{SizesAnswer, readTests, Reads}
 
 -- ---- a buffer filled from the front of a table: its first i entries

@@ -1,13 +1,13 @@
 -- What each step of going through a text gives: the root filled into blank tables, and the answers, one exit after the other.
 use mathlib.Core.Path.{_≡_, refl, sym, _∙_, ap, ap₂, subst}
-use mathlib.Core.Bool.{Bool, true, false, cond}
+use mathlib.Core.Bool.{Bool, true, false}
 use mathlib.Core.List.{List, [], _∷_}
-use Prim.Native.Nat.{ℕ, suc, _+_, _-_, _≤_, _<_}
+use Prim.Native.Nat.{ℕ, _+_, _-_, _≤_}
 use native.Mathlib.Omega.{arith}
 use borrow.Author.Tests.{eqb-true, eqb-false, ltb-false}
 use lib.Dec.{eqb, ltb}
 use lib.IntN.{ℤ, pos}
-use lib.ListN.{length, getD, take, drop}
+use lib.ListN.{length, getD, take}
 use Rattle.exact.specs.Table.{table}
 use Rattle.exact.proofs.Fill.{length-table}
 use Rattle.verdict.specs.Answer.{Answer, pass, fault, answerOf, test, _orElse_}
@@ -44,7 +44,7 @@ use Rattle.newick_fill.specs.declared.Step.{Step}
 use Rattle.newick_fill.specs.Fill.{parentEntry, lengthEntry, Vertex, Took}
 use Rattle.newick_survey.specs.declared.Tables.{Tables}
 use Rattle.newick_survey.specs.declared.Survey.{Survey}
-use Rattle.newick_survey.specs.Text.{findIn, headTests, tableTests, Entered, Held, TextSurvey, formless, formed, Answered, by-names, by-form, by-row, Surveyed}
+use Rattle.newick_survey.specs.Text.{findIn, headTests, tableTests, Entered, Held, TextSurvey, formless, formed, by-names, by-form, by-row, Surveyed}
 use Rattle.newick_survey.proofs.Fronts.{tests-are, passes-few, passes-lengths, parents-are, numerators-are, entry-unused, entry-used}
 
 -- ---- the root
