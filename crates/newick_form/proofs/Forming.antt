@@ -15,7 +15,7 @@ use Rattle.names.specs.Name.{isNameByte, isName}
 use Rattle.newick_text.specs.Tree.{Tree, leaf, node, Row, none, some, textThen, rowThen, Formed, RowFormed, Text, maxOpen, maxText}
 use Rattle.newick_text.proofs.Runs.{append-same}
 use Rattle.newick_text.proofs.Lengths.{same-length}
-use Rattle.newick_text.proofs.Unique.{colon-ends, same-name, no-bracket, row-stops, same-row}
+use Rattle.newick_text.proofs.Unique.{colon-ends, semicolon-ends, same-name, no-bracket, row-stops, same-row}
 use Rattle.newick_words.specs.Words.{nameWidth, edgeWidth}
 use Rattle.newick_words.proofs.Edges.{byte-is, first-is, rest-is, NameAt, name-at, no-name, EdgeAt, edge-at, no-edge}
 use Rattle.newick_form.specs.Form.{Stands, FormRead, Found, TextRead}
@@ -203,10 +203,6 @@ module _ (s : List ℕ) (a m i : ℕ) (w : Rest s a m i) where
           go k (some t u r) h l = record { first = t; word = u; others = r; text = rest-is s j 44 _ (sym h); formed = l }
 
 -- ---- a whole text
-semicolon-ends : run isNameByte (59 ∷ []) ≡ 0
-unfolding isNameByte run
-semicolon-ends = refl
-
 module _ (s : List ℕ) where
   pub text-bare : (getD s 0 0 ≡ 40 → ⊥) → TextRead s false
   unfolding Formed

@@ -37,6 +37,10 @@ no-colon : isNameByte 58 ≡ false
 unfolding isNameByte
 no-colon = refl
 
+no-semicolon : isNameByte 59 ≡ false
+unfolding isNameByte
+no-semicolon = refl
+
 no-open : isNameByte 40 ≡ false
 unfolding isNameByte
 no-open = refl
@@ -44,6 +48,10 @@ no-open = refl
 -- a colon ends a name
 pub colon-ends : (k : List ℕ) → run isNameByte (58 ∷ k) ≡ 0
 colon-ends k = run-none isNameByte (58 ∷ k) no-colon
+
+-- and so does the semicolon behind the root
+pub semicolon-ends : run isNameByte (59 ∷ []) ≡ 0
+semicolon-ends = run-none isNameByte (59 ∷ []) no-semicolon
 
 pub name-colon : (n k : List ℕ) → isName n ≡ true → run isNameByte (n ++ (58 ∷ k)) ≡ length n
 name-colon n k h = name-ends n (58 ∷ k) h (colon-ends k)
