@@ -5,3 +5,4 @@ pub mod Unique
 pub mod Counting
 pub mod Using
 pub mod Filling
+pub mod Sample
