@@ -1,21 +1,20 @@
 -- One vertex and one child at a time, over plain lists: what each step of the filling gives, of every vertex and every children that may
 -- stand at the place.
 use mathlib.Core.Path.{_≡_, refl, sym, _∙_, ap, ap₂}
-use mathlib.Core.Bool.{Bool, true, false}
-use mathlib.Core.List.{List, [], _∷_, _++_}
+use mathlib.Core.Bool.{true}
+use mathlib.Core.List.{List, _∷_, _++_}
 use Prim.Native.Nat.{ℕ, suc, _+_, _-_, _<_, _≤_}
 use native.Mathlib.Numerals.{add-one}
 use native.Mathlib.Omega.{arith}
 use lib.IntN.{ℤ, natAbs}
-use lib.ListN.{length, drop, take, getD, set, length-drop, length-append}
+use lib.ListN.{length, drop, take, getD, set}
 use lib.Seq.{take-at, drop-at, drop-drop}
 use mir.Syntax.{w64}
 use mir.Val.{toZ, ofZ}
 use Rattle.exact.proofs.Sign.{back}
-use Rattle.digits.specs.Digits.{run, isDigit}
 use Rattle.digits.proofs.Reading.{inside}
-use Rattle.names.specs.Name.{isNameByte, isName}
-use Rattle.newick_text.specs.Length.{lengthThere, isLength, valueOf}
+use Rattle.names.specs.Name.{isName}
+use Rattle.newick_text.specs.Length.{lengthThere, valueOf}
 use Rattle.newick_text.specs.Tree.{Tree, leaf, node, Row, none, some, textThen, rowThen, Formed, RowFormed}
 use Rattle.newick_text.specs.Table.{after, rowAfter, numberOf, filled, rowFilled}
 use Rattle.newick_text.proofs.Lengths.{length-then}

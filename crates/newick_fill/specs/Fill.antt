@@ -1,7 +1,7 @@
 -- What filling the tables of a text promises, of every vertex that stands at a place: where it ends, its number, the next number, and its
 -- entries in both tables.
 use mathlib.Core.Path.{_≡_}
-use mathlib.Core.Bool.{true, cond}
+use mathlib.Core.Bool.{cond}
 use mathlib.Core.List.{List, _∷_, _++_}
 use Prim.Native.Nat.{ℕ, suc, _+_, _<_, _≤_}
 use lib.Dec.{ltb}
@@ -10,7 +10,7 @@ use lib.ListN.{length, drop}
 use Rattle.digits.specs.Digits.{run}
 use Rattle.names.specs.Name.{isNameByte}
 use Rattle.newick_text.specs.Length.{valueOf}
-use Rattle.newick_text.specs.Tree.{Tree, node, Row, some, textThen, rowThen, Formed, RowFormed}
+use Rattle.newick_text.specs.Tree.{Tree, Row, some, textThen, rowThen, Formed, RowFormed}
 use Rattle.newick_text.specs.Table.{after, rowAfter, numberOf, filled, rowFilled}
 use Rattle.newick_words.specs.Words.{cut}
 use Rattle.newick_fill.specs.declared.Step.{Step}

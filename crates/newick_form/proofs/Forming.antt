@@ -1,27 +1,25 @@
 -- The form, with the vertices of a bracket in a loop. The loop's invariant is an equivalence (`Rest`): a vertex stands from a on exactly
 -- where children and a closing bracket stand from i on.
-use mathlib.Core.Path.{_≡_, refl, sym, _∙_, ap, ap₂}
+use mathlib.Core.Path.{_≡_, refl, sym, _∙_, ap}
 use mathlib.Core.Bool.{Bool, true, false}
 use mathlib.Core.List.{List, [], _∷_, _++_}
-use Prim.Native.Nat.{ℕ, suc, _+_, _-_, _<_, _≤_}
-use native.Mathlib.Numerals.{add-one}
+use Prim.Native.Nat.{ℕ, _+_, _-_, _<_, _≤_}
 use native.Mathlib.Omega.{arith}
 use borrow.Author.Tests.{eqb-true, eqb-false}
 use lib.Dec.{eqb}
 use lib.ListN.{length, drop, getD, length-drop}
 use lib.Seq.{drop-length}
-use Rattle.digits.specs.Digits.{run, isDigit}
+use Rattle.digits.specs.Digits.{run}
 use Rattle.digits.proofs.Reading.{inside}
 use Rattle.names.specs.Name.{isNameByte, isName}
-use Rattle.newick_text.specs.Length.{isLength}
-use Rattle.newick_text.specs.Tree.{Tree, leaf, node, Row, none, some, textThen, rowThen, Formed, RowFormed, Text, textOf, maxOpen, maxText}
-use Rattle.newick_text.proofs.Runs.{run-none, append-same}
+use Rattle.newick_text.specs.Tree.{Tree, leaf, node, Row, none, some, textThen, rowThen, Formed, RowFormed, Text, maxOpen, maxText}
+use Rattle.newick_text.proofs.Runs.{append-same}
 use Rattle.newick_text.proofs.Lengths.{same-length}
-use Rattle.newick_text.proofs.Unique.{colon-ends, same-name, no-bracket, row-stops, same-row}
+use Rattle.newick_text.proofs.Unique.{colon-ends, semicolon-ends, same-name, no-bracket, row-stops, same-row}
 use Rattle.newick_words.specs.Words.{nameWidth, edgeWidth}
 use Rattle.newick_words.proofs.Edges.{byte-is, first-is, rest-is, NameAt, name-at, no-name, EdgeAt, edge-at, no-edge}
 use Rattle.newick_form.specs.Form.{Stands, FormRead, Found, TextRead}
-use Rattle.newick_form.specs.declared.End.the-variants.{Nowhere, At}
+use Rattle.newick_form.specs.declared.End.the-variants.{Nowhere}
 
 -- ---- the two ways in which a formed vertex begins: with a name, or with a bracket and children
 pub data Begins (l : List ℕ) (m : ℕ) (k : List ℕ) : Type 0 where
@@ -205,10 +203,6 @@ module _ (s : List ℕ) (a m i : ℕ) (w : Rest s a m i) where
           go k (some t u r) h l = record { first = t; word = u; others = r; text = rest-is s j 44 _ (sym h); formed = l }
 
 -- ---- a whole text
-semicolon-ends : run isNameByte (59 ∷ []) ≡ 0
-unfolding isNameByte run
-semicolon-ends = refl
-
 module _ (s : List ℕ) where
   pub text-bare : (getD s 0 0 ≡ 40 → ⊥) → TextRead s false
   unfolding Formed

@@ -3,7 +3,6 @@
 ghost use mathlib.Core.Path.{_≡_};
 ghost use Prim.Native.Nat.{_≤_};
 ghost use lib.ListN.{length};
-ghost use Rattle.newick_text.specs.Tree.{maxOpen, maxText};
 ghost use Rattle.newick_text.specs.Count.{occurs};
 ghost use Rattle.newick_form.specs.Form.{FormRead, TextRead};
 

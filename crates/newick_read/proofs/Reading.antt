@@ -1,7 +1,7 @@
 -- What is gone through becomes the answer: the sizes, and the buffers. Room counts only where the row passes, and there it is room for the
 -- row's edges.
-use mathlib.Core.Path.{_≡_, refl, sym, _∙_, ap, ap₂, subst}
-use mathlib.Core.Bool.{Bool, true, false, not, _||_}
+use mathlib.Core.Path.{_≡_, refl, sym, _∙_, ap, subst}
+use mathlib.Core.Bool.{Bool, not, _||_}
 use mathlib.Core.List.{List}
 use Prim.Native.Nat.{ℕ, _+_, _≤_, _<_}
 use native.Mathlib.Omega.{arith}
@@ -22,11 +22,12 @@ use Rattle.verdict.proofs.Answers.{refuses, not-pass, orElse-pass, test-pass, o
 use Rattle.names.specs.Record.{recordCount}
 use Rattle.newick_text.specs.Length.{valueOf}
 use Rattle.newick_text.specs.Tree.{Row, node, Text}
-use Rattle.newick_text.specs.Tests.{edgesIn, parentsIn, numeratorsIn, rowTests, roomOut}
+use Rattle.newick_text.specs.Tests.{edgesIn, rowTests, roomOut}
 use Rattle.newick_text.proofs.Filling.{filled-length}
 use Rattle.newick_form.specs.Form.{Found}
 use Rattle.newick_survey.specs.declared.Survey.{Survey}
-use Rattle.newick_survey.specs.Text.{findIn, headTests, Held, Answered, by-names, by-form, by-row, Surveyed}
+use Rattle.newick_survey.specs.Text.{findIn, Held, Answered, by-names, by-form, by-row, Surveyed}
+use Rattle.newick_survey.proofs.Surveying.{same-head}
 use Rattle.newick_read.specs.Answers.{SizesAnswer, readTests, Reads}
 
 -- ---- a buffer filled from the front of a table: its first i entries
@@ -54,6 +55,10 @@ passed-row names text rows a (by-names n e) ok = absurd (n (sym e ∙ ok))
 passed-row names text rows a (by-form h n e) ok = absurd (refuses 28 Nowhere (sym e ∙ ok))
 passed-row names text rows a (by-row h r x e) ok = record { row = r; text = x }
 
+first-refused : (a b : Answer) → (a ≡ pass → ⊥) → (a orElse b) ≡ a
+first-refused pass b n = absurd (n refl)
+first-refused (fault k z) b n = refl
+
 module _ (names text : List ℕ) (s : Survey) (w : Surveyed names text s) where
   -- ---- the sizes
   pub sizes-refused : (f : Refusal) → s .verdict ≡ Refused f → SizesAnswer names text (record { verdict = Refused f; strains = 0; edges = 0 })
@@ -75,14 +80,6 @@ module _ (names text : List ℕ) (s : Survey) (w : Surveyed names text s) where
       (t h : Verdict) (et : answerOf t ≡ test 15 o) (eh : answerOf h ≡ (answerOf (s .verdict) orElse answerOf t)) where
     here : answerOf h ≡ (answerOf (s .verdict) orElse test 15 o)
     here = eh ∙ ap (λ (b : Answer). answerOf (s .verdict) orElse b) et
-
-    first-refused : (a b : Answer) → (a ≡ pass → ⊥) → (a orElse b) ≡ a
-    first-refused pass b n = absurd (n refl)
-    first-refused (fault k z) b n = refl
-
-    same-head : (a b c : Answer) → (a ≡ pass → b ≡ c) → (a orElse b) ≡ (a orElse c)
-    same-head pass b c g = g refl
-    same-head (fault k z) b c g = refl
 
     room-is : (r : Row) → Text text r → answerOf (s .verdict) ≡ pass → o ≡ roomOut (findIn names) (recordCount names) r (length p) (length x)
     room-is r y ok = eo ∙ ap (λ (k : ℕ). not (eqb (length p) k) || not (eqb (length x) k)) (w .held ok r y .edges)

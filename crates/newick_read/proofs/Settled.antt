@@ -5,7 +5,7 @@ use mathlib.Core.List.{List}
 use Prim.Native.Nat.{ℕ}
 use lib.IntN.{ℤ}
 use Rattle.exact.proofs.Decide.{by-cases}
-use Rattle.verdict.specs.Answer.{Answer, pass, number, answerOf}
+use Rattle.verdict.specs.Answer.{Answer, number, answerOf}
 use Rattle.verdict.specs.declared.Verdict.{Verdict}
 use Rattle.verdict.proofs.Answers.{passes, same-answer}
 use Rattle.names.specs.Record.{recordCount}

@@ -3,34 +3,33 @@
 -- its name is not used (`entry-unused`).
 use mathlib.Core.Path.{_≡_, refl, sym, _∙_, ap, ap₂}
 use mathlib.Core.Bool.{Bool, true, false, cond}
-use mathlib.Core.List.{List, [], _∷_, map}
+use mathlib.Core.List.{List, map}
 use Prim.Native.Nat.{ℕ, suc, _+_, _-_, _*_, _≤_, _<_}
 use native.Mathlib.Decide.{decLt}
 use native.Mathlib.Omega.{arith}
-use borrow.Author.Tests.{lt-ltb, le-ltb, ltb-false, eq-eqb, ne-eqb}
-use lib.Dec.{eqb, ltb}
-use lib.IntN.{ℤ, pos, negsuc, negℤ, natAbs}
-use lib.ListN.{length, getD, take, length-take, length-map, List·getD-map}
+use borrow.Author.Tests.{lt-ltb, le-ltb, ltb-false}
+use lib.Dec.{ltb}
+use lib.IntN.{ℤ, pos, negsuc, natAbs}
+use lib.ListN.{length, getD, take, length-map, List·getD-map}
 use lib.Seq.{getD-take, ext-getD, length-take-le}
 use Rattle.exact.specs.Table.{table}
 use Rattle.exact.proofs.Decide.{by-cases}
-use Rattle.exact.proofs.Fill.{length-table, getD-table, getD-table-const, table-is}
+use Rattle.exact.proofs.Fill.{length-table, getD-table-const, table-is}
 use Rattle.exact.proofs.Sign.{natAbs-neg}
 use Rattle.verdict.specs.Answer.{Answer, pass, fault, test, atFirst, _orElse_}
-use Rattle.verdict.specs.Table.{some}
 use Rattle.verdict.specs.declared.Place.the-variants.{Nowhere, Edge}
 use Rattle.verdict.proofs.Answers.{refuses, atFirst-cong, orElse-pass, first-pass, or-none}
 use Rattle.verdict.proofs.Table.{some-none}
 use Rattle.matrix.specs.Limits.{minStrains, maxStrains}
 use Rattle.matrix.specs.Tests.{strainsOut}
 use Rattle.tree_theory.specs.Limits.{maxEdges}
-use Rattle.tree_theory.specs.Tests.{treeTests, verticesOut}
+use Rattle.tree_theory.specs.Tests.{treeTests}
 use Rattle.lengths.specs.Limits.{maxNumerator}
 use Rattle.lengths.specs.Tests.{lengthsTests, numeratorOut, edgesOut, denominatorOut}
 use Rattle.digits.specs.Digits.{most, atMost}
 use Rattle.digits.proofs.Reading.{low-cut, high-cut}
 use Rattle.newick_text.specs.Length.{valueOf}
-use Rattle.newick_text.specs.Tree.{Row, node, leavesWith, tally}
+use Rattle.newick_text.specs.Tree.{Row, node, tally}
 use Rattle.newick_text.specs.Table.{after, rowAfter, filled}
 use Rattle.newick_text.specs.Tests.{thousand, edgesIn, parentsIn, numeratorsIn, namesWrong, rowTests}
 use Rattle.newick_text.proofs.Counting.{rows-number}

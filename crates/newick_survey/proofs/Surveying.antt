@@ -1,13 +1,13 @@
 -- What each step of going through a text gives: the root filled into blank tables, and the answers, one exit after the other.
 use mathlib.Core.Path.{_≡_, refl, sym, _∙_, ap, ap₂, subst}
-use mathlib.Core.Bool.{Bool, true, false, cond}
+use mathlib.Core.Bool.{Bool, true, false}
 use mathlib.Core.List.{List, [], _∷_}
-use Prim.Native.Nat.{ℕ, suc, _+_, _-_, _≤_, _<_}
+use Prim.Native.Nat.{ℕ, _+_, _-_, _≤_}
 use native.Mathlib.Omega.{arith}
 use borrow.Author.Tests.{eqb-true, eqb-false, ltb-false}
 use lib.Dec.{eqb, ltb}
 use lib.IntN.{ℤ, pos}
-use lib.ListN.{length, getD, take, drop}
+use lib.ListN.{length, getD, take}
 use Rattle.exact.specs.Table.{table}
 use Rattle.exact.proofs.Fill.{length-table}
 use Rattle.verdict.specs.Answer.{Answer, pass, fault, answerOf, test, _orElse_}
@@ -24,10 +24,8 @@ use Rattle.matrix.specs.Tests.{strainsOut}
 use Rattle.tree_theory.specs.Limits.{maxEdges}
 use Rattle.tree_theory.specs.Tests.{treeTests}
 use Rattle.lengths.specs.Tests.{lengthsTests}
-use Rattle.digits.specs.Digits.{run}
 use Rattle.records.specs.Names.{nameStart}
 use Rattle.records.specs.Form.{headSize}
-use Rattle.names.specs.Name.{isNameByte}
 use Rattle.names.specs.Record.{placeOf, recordCount, namesTests, NamesAnswer}
 use Rattle.names.specs.declared.Named.{Named}
 use Rattle.names.proofs.Laws.{lent-within}
@@ -35,7 +33,7 @@ use Rattle.newick_text.specs.Tree.{Row, node, textThen, Text, maxOpen}
 use Rattle.newick_text.specs.Table.{filled}
 use Rattle.newick_text.specs.Tests.{thousand, edgesIn, parentsIn, numeratorsIn, namesWrong, rowTests}
 use Rattle.newick_text.specs.Count.{occurs}
-use Rattle.newick_text.proofs.Unique.{one-row}
+use Rattle.newick_text.proofs.Unique.{semicolon-ends, one-row}
 use Rattle.newick_text.proofs.Counting.{commas, openings, row-number}
 use Rattle.newick_text.proofs.Using.{names-right, names-many, names-missing}
 use Rattle.newick_text.proofs.Filling.{filled-length}
@@ -44,14 +42,10 @@ use Rattle.newick_fill.specs.declared.Step.{Step}
 use Rattle.newick_fill.specs.Fill.{parentEntry, lengthEntry, Vertex, Took}
 use Rattle.newick_survey.specs.declared.Tables.{Tables}
 use Rattle.newick_survey.specs.declared.Survey.{Survey}
-use Rattle.newick_survey.specs.Text.{findIn, headTests, tableTests, Entered, Held, TextSurvey, formless, formed, Answered, by-names, by-form, by-row, Surveyed}
+use Rattle.newick_survey.specs.Text.{findIn, headTests, tableTests, Entered, Held, TextSurvey, formless, formed, by-names, by-form, by-row, Surveyed}
 use Rattle.newick_survey.proofs.Fronts.{tests-are, passes-few, passes-lengths, parents-are, numerators-are, entry-unused, entry-used}
 
 -- ---- the root
-semicolon-ends : run isNameByte (59 ∷ []) ≡ 0
-unfolding isNameByte run
-semicolon-ends = refl
-
 pub root-stands : (s : List ℕ) (r : Row) → Text s r → Vertex s 0
 unfolding textThen
 root-stands s r x = record { tree = node r; room = maxOpen; rest = 59 ∷ []; formed = x .formed; stop = semicolon-ends; text = x .text }
@@ -130,7 +124,8 @@ pub strains-few : (N : ℕ) → strainsOut N ≡ false → N ≤ maxStrains
 strains-few N h = ltb-false maxStrains N (or-none (ltb N minStrains) (ltb maxStrains N) h .1)
 
 -- ---- names first
-same-head : (a b c : Answer) → (a ≡ pass → b ≡ c) → (a orElse b) ≡ (a orElse c)
+-- what follows a refusal does not matter
+pub same-head : (a b c : Answer) → (a ≡ pass → b ≡ c) → (a orElse b) ≡ (a orElse c)
 same-head pass b c h = h refl
 same-head (fault k p) b c h = refl
 

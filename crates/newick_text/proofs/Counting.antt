@@ -1,21 +1,20 @@
 -- Leaves and brackets, counted without reading: a text of the form has a comma less than leaves, and as many opening brackets as brackets
 -- (`commas`, `openings`); and numbers rise by one with each bracket (`row-number`).
-use mathlib.Core.Path.{_≡_, refl, sym, _∙_, ap, subst}
+use mathlib.Core.Path.{_≡_, refl, sym, _∙_, ap}
 use mathlib.Core.Bool.{Bool, true, false, cond, true≢false}
 use mathlib.Core.List.{List, [], _∷_, _++_}
-use Prim.Native.Nat.{ℕ, zero, suc, _+_, _-_, _≤_, _<_}
-use native.Mathlib.Decide.{ℕ-discrete}
+use Prim.Native.Nat.{ℕ, suc, _+_, _-_}
 use native.Mathlib.Omega.{arith}
 use borrow.Author.Tests.{eqb-true, eq-eqb, ne-eqb}
 use lib.Dec.{eqb}
-use lib.ListN.{length, getD, take, drop, length-drop, take-append-drop}
+use lib.ListN.{length, take, drop, length-drop, take-append-drop}
 use lib.Seq.{drop-cons, drop-drop, length-take-le}
 use native.Mathlib.Numerals.{add-one}
 use Rattle.digits.specs.Digits.{run, isDigit}
 use Rattle.digits.proofs.Reading.{both-true}
 use Rattle.names.specs.Name.{isNameByte, isName}
 use Rattle.newick_text.specs.Length.{signSize, wholeSize, pointAt, lengthSize, lengthThere, isLength}
-use Rattle.newick_text.specs.Tree.{Tree, leaf, node, Row, none, some, textThen, rowThen, tally, rowTally, leavesOf, bracketsOf, Some, Formed, RowFormed, Text, textOf}
+use Rattle.newick_text.specs.Tree.{Tree, leaf, node, Row, none, some, textThen, rowThen, tally, rowTally, leavesOf, bracketsOf, Some, Formed, RowFormed, Text}
 use Rattle.newick_text.specs.Table.{after, rowAfter}
 use Rattle.newick_text.specs.Count.{occurs}
 use Rattle.newick_text.proofs.Runs.{run-take, run-within}

@@ -15,3 +15,4 @@ pub mod Unique
 pub mod Counting
 pub mod Using
 pub mod Filling
+pub mod Sample

@@ -1,21 +1,21 @@
 -- Thousandths that were written are a length, and it is read back: `text-length` and `text-value`, for every number below 2^64 in magnitude.
-use mathlib.Core.Path.{_≡_, refl, sym, _∙_, ap, ap₂, subst}
-use mathlib.Core.Bool.{Bool, true, false, cond, not, _&&_}
+use mathlib.Core.Path.{_≡_, refl, sym, _∙_, ap, ap₂}
+use mathlib.Core.Bool.{Bool, true, false, cond, _&&_}
 use mathlib.Core.List.{List, [], _∷_, _++_, append-assoc}
 use Prim.Native.Nat.{ℕ, zero, suc, _+_, _-_, _*_, _/_, _%_, _^_, _≤_, _<_}
 use native.Mathlib.Decide.{decLt}
 use native.Mathlib.Omega.{arith}
-use borrow.Author.Tests.{le-leb, le-ltb, eq-eqb, ne-eqb}
-use lib.Dec.{eqb, leb, ltb}
-use lib.IntN.{ℤ, pos, negsuc, negℤ, natAbs}
+use borrow.Author.Tests.{le-leb, eq-eqb, ne-eqb}
+use lib.Dec.{eqb, ltb}
+use lib.IntN.{ℤ, pos, negsuc, natAbs}
 use lib.ListN.{length, getD, take, drop, length-append}
 use lib.Seq.{take-at, drop-at, drop-append-add, getD-append-add}
 use Rattle.exact.proofs.Decide.{by-cases}
-use Rattle.digits.specs.Digits.{run, isDigit, digitOf, numberFrom}
+use Rattle.digits.specs.Digits.{run, isDigit, numberFrom}
 use Rattle.digits.proofs.Reading.{is-digit-of}
 use Rattle.writing.specs.Text.{digits, decimal}
 use Rattle.writing.proofs.Decimals.{digits-small, digits-step, decimal-small, decimal-some}
-use Rattle.newick_text.specs.Length.{signSize, wholeSize, pointAt, needless, magnitudeOf, lengthSize, lengthThere, isLength, valueOf, thousandths, lengthText}
+use Rattle.newick_text.specs.Length.{signSize, wholeSize, pointAt, magnitudeOf, lengthSize, lengthThere, isLength, valueOf, thousandths, lengthText}
 use Rattle.newick_text.proofs.Runs.{number-append}
 
 -- ---- digits that were written

@@ -1,17 +1,16 @@
 -- A text is read in one way only: a name ends at its colon, a length where its digits end, and so where the texts of two trees, each with
 -- something behind it, are the same bytes, the trees are the same and so is what is behind them.
-use mathlib.Core.Path.{_≡_, refl, sym, _∙_, ap, ap₂}
-use mathlib.Core.Bool.{Bool, true, false, cond}
+use mathlib.Core.Path.{_≡_, refl, sym, _∙_, ap}
+use mathlib.Core.Bool.{true, false}
 use mathlib.Core.List.{List, [], _∷_, _++_}
-use Prim.Native.Nat.{ℕ, _+_, _-_, _≤_, _<_}
+use Prim.Native.Nat.{ℕ, _+_, _-_, _≤_}
 use native.Mathlib.Omega.{arith}
 use borrow.Author.Tests.{eqb-true, leb-true}
-use lib.Dec.{eqb, leb}
-use lib.ListN.{length, getD}
+use lib.Dec.{leb}
+use lib.ListN.{length}
 use Rattle.digits.specs.Digits.{run, isDigit}
 use Rattle.digits.proofs.Reading.{both-true}
 use Rattle.names.specs.Name.{maxName, isNameByte, isName}
-use Rattle.newick_text.specs.Length.{isLength}
 use Rattle.newick_text.specs.Tree.{Tree, leaf, node, Row, none, some, textThen, rowThen, Formed, RowFormed, Text}
 use Rattle.newick_text.proofs.Runs.{run-none, run-append, append-same}
 use Rattle.newick_text.proofs.Lengths.{same-length}
@@ -38,6 +37,10 @@ no-colon : isNameByte 58 ≡ false
 unfolding isNameByte
 no-colon = refl
 
+no-semicolon : isNameByte 59 ≡ false
+unfolding isNameByte
+no-semicolon = refl
+
 no-open : isNameByte 40 ≡ false
 unfolding isNameByte
 no-open = refl
@@ -45,6 +48,10 @@ no-open = refl
 -- a colon ends a name
 pub colon-ends : (k : List ℕ) → run isNameByte (58 ∷ k) ≡ 0
 colon-ends k = run-none isNameByte (58 ∷ k) no-colon
+
+-- and so does the semicolon behind the root
+pub semicolon-ends : run isNameByte (59 ∷ []) ≡ 0
+semicolon-ends = run-none isNameByte (59 ∷ []) no-semicolon
 
 pub name-colon : (n k : List ℕ) → isName n ≡ true → run isNameByte (n ++ (58 ∷ k)) ≡ length n
 name-colon n k h = name-ends n (58 ∷ k) h (colon-ends k)

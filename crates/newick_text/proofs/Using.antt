@@ -1,17 +1,16 @@
 -- Names used once each: where there are as many leaves as names and every name is used, none is used twice and none is unknown
 -- (`names-right`); and where names are right, there are that many leaves and each is used once (`names-once`).
-use mathlib.Core.Path.{_≡_, refl, sym, _∙_, ap, ap₂}
-use mathlib.Core.Bool.{Bool, true, false, cond, not, _||_}
+use mathlib.Core.Path.{_≡_, refl, sym, _∙_, ap}
+use mathlib.Core.Bool.{Bool, true, false, cond, not}
 use mathlib.Core.List.{List}
 use Prim.Native.Nat.{ℕ, zero, suc, _+_, _≤_, _<_}
 use native.Mathlib.Decide.{decLt, ℕ-discrete}
 use native.Mathlib.Omega.{arith}
-use borrow.Author.Count.{below-more}
 use borrow.Author.Tests.{eq-eqb, ne-eqb, le-leb, lt-leb, leb-false, eqb-true, not-false}
 use lib.Dec.{eqb, leb}
 use Rattle.exact.proofs.Decide.{by-cases}
 use Rattle.verdict.specs.Table.{some}
-use Rattle.verdict.proofs.Table.{some-no, some-none, some-yes}
+use Rattle.verdict.proofs.Table.{some-no, some-none}
 use Rattle.verdict.proofs.Answers.{or-none, none-or}
 use Rattle.newick_text.specs.Tree.{Tree, leaf, node, Row, none, tally, rowTally, leavesOf, leavesWith}
 use Rattle.newick_text.specs.Tree as trees

@@ -1,21 +1,21 @@
 -- A name, and a length behind its colon, from one place of a text to another: what stands there where they are found, and that nothing of
 -- the kind stands there where they are not.
 use mathlib.Core.Path.{_≡_, refl, sym, _∙_, ap, ap₂}
-use mathlib.Core.Bool.{Bool, true, false, cond, _&&_, true≢false}
-use mathlib.Core.List.{List, [], _∷_, _++_}
+use mathlib.Core.Bool.{Bool, true, false, cond, _&&_}
+use mathlib.Core.List.{List, _∷_, _++_}
 use Prim.Native.Nat.{ℕ, suc, _+_, _-_, _≤_, _<_}
 use native.Mathlib.Decide.{decLt}
 use native.Mathlib.Numerals.{add-one}
 use native.Mathlib.Omega.{arith}
 use borrow.Author.Tests.{le-leb, lt-leb, eq-eqb, eqb-true}
-use lib.Dec.{eqb, leb}
-use lib.ListN.{length, getD, take, drop, length-drop, take-append-drop}
+use lib.Dec.{eqb}
+use lib.ListN.{length, getD, take, drop, take-append-drop}
 use lib.Seq.{drop-cons, drop-drop, length-take-le}
 use Rattle.exact.proofs.Decide.{by-cases}
 use Rattle.digits.specs.Digits.{run, isDigit}
 use Rattle.digits.proofs.Reading.{both-true, inside}
 use Rattle.names.specs.Name.{maxName, isNameByte, isName}
-use Rattle.newick_text.specs.Length.{lengthThere, lengthSize, isLength, valueOf}
+use Rattle.newick_text.specs.Length.{lengthThere, lengthSize, isLength}
 use Rattle.newick_text.proofs.Runs.{run-take, run-behind, run-within}
 use Rattle.newick_text.proofs.Lengths.{length-then, length-front}
 use Rattle.newick_text.proofs.Unique.{name-told, name-ends}

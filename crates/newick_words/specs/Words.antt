@@ -1,6 +1,6 @@
 -- The words at the front of a text (RULES, Trees in text), by how many bytes they have, 0 where none stands there; and a length's
 -- thousandths, cut where no length may go.
-use mathlib.Core.Bool.{Bool, cond, _&&_}
+use mathlib.Core.Bool.{cond, _&&_}
 use mathlib.Core.List.{List}
 use Prim.Native.Nat.{ℕ, suc, _+_}
 use lib.Dec.{eqb, leb}

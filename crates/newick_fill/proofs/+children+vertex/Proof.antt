@@ -1,8 +1,8 @@
 -- The proof of the cycle of calls {children, vertex}. The measure is twice the bytes left, and one more for `children`, which calls
 -- `vertex` at its own place. Each return is one step of `Steps`.
-use mathlib.Core.Path.{_≡_, refl, sym, _∙_, ap, subst}
+use mathlib.Core.Path.{_≡_, refl, sym, _∙_}
 use mathlib.Core.List.{List}
-use Prim.Native.Nat.{ℕ, _+_, _-_, _*_, _<_, _≤_}
+use Prim.Native.Nat.{ℕ, _+_, _-_, _*_, _<_}
 use native.Mathlib.Omega.{arith}
 use borrow.Author.Needs.{needs}
 use borrow.Fn.Kinds.{In}
@@ -11,7 +11,6 @@ use lib.IntN.{ℤ}
 use lib.ListN.{length, getD}
 use Rattle.digits.proofs.Reading.{inside}
 use Rattle.names.specs.Record.{placeOf}
-use Rattle.newick_fill.specs.Fill.{Vertex, Children, Took, TookAll}
 use Rattle.newick_fill.proofs.Steps.{stored, bracket-kids, took-bracket, took-name, first-child, length-stands, took-last, other-kids, others-within, took-more}
 use Rattle.newick_fill.proofs.children.Reads as children
 use Rattle.newick_fill.proofs.children.Kinds as children-kinds

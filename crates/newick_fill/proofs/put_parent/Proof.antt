@@ -1,7 +1,5 @@
 -- A store where there is room; past the end `set` changes nothing.
-use mathlib.Core.Path.{sym, ap}
-use Prim.Native.Nat.{ℕ}
-use lib.ListN.{set}
+use mathlib.Core.Path.{sym}
 use lib.Seq.{set-out}
 use borrow.Author.Needs.{needs}
 use Rattle.newick_fill.proofs.put_parent.Statement.{statement}

@@ -1,6 +1,4 @@
 -- The root is a vertex, with a semicolon behind it.
-use mathlib.Core.Path.{_≡_, sym, _∙_, ap}
-use Prim.Native.Nat.{ℕ}
 use native.Mathlib.Omega.{arith}
 use Rattle.records.specs.Form.{headSize}
 use Rattle.names.specs.Record.{placeOf}

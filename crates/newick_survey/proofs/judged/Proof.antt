@@ -1,8 +1,6 @@
 -- Room for so many edges; then the tree, then the lengths.
-use mathlib.Core.Path.{_≡_, refl, sym, _∙_, ap, ap₂}
-use Prim.Native.Nat.{_≤_}
+use mathlib.Core.Path.{sym, _∙_, ap₂}
 use native.Mathlib.Omega.{arith}
-use borrow.Author.Tests.{lt-ltb, le-ltb}
 use lib.Seq.{length-take-le}
 use Rattle.verdict.specs.Answer.{Answer, _orElse_}
 use Rattle.newick_survey.proofs.Fronts.{tests-many, tests-few}

@@ -1,14 +1,12 @@
 -- Test by test, in the order in which the definition asks them.
-use mathlib.Core.Path.{_≡_, refl, sym, _∙_, ap}
-use mathlib.Core.Bool.{Bool, not, _&&_}
+use mathlib.Core.Path.{_≡_, sym, _∙_, ap}
 use mathlib.Core.List.{List}
 use Prim.Native.Nat.{ℕ, _+_, _-_}
 use native.Mathlib.Omega.{arith}
-use lib.Dec.{eqb}
-use lib.ListN.{getD, drop}
-use Rattle.digits.specs.Digits.{run, isDigit, atMost}
+use lib.ListN.{drop}
+use Rattle.digits.specs.Digits.{run, isDigit}
 use Rattle.digits.proofs.Reading.{inside}
-use Rattle.newick_text.specs.Length.{signSize, magnitudeOf, lengthThere}
+use Rattle.newick_text.specs.Length.{signSize}
 use Rattle.newick_words.proofs.Words.{point-is, there-none, there-needless, there-pointless, there-places, there-plain, there-minus}
 use borrow.Author.Needs.{needs}
 use Rattle.newick_words.proofs.length_there.Statement.{statement}
