@@ -7,11 +7,13 @@ use native.Mathlib.Decide.{ℕ-discrete}
 use native.Mathlib.Numerals.{add-one}
 use native.Mathlib.Omega.{arith}
 use lib.Dec.{ltb}
-use lib.ListN.{length, getD, take, drop}
+use lib.ListN.{length, getD, take, drop, length-drop}
+use lib.Seq.{length-take-le}
 use Rattle.exact.proofs.Decide.{by-cases}
 use Rattle.verdict.specs.Table.{some, first}
 use Rattle.verdict.proofs.Table.{some-yes, some-no, some-first, first-is, past-first}
 use Rattle.digits.specs.Digits.{same}
+use Rattle.digits.proofs.Comparing.{same-longer}
 use Rattle.records.specs.Names.{nameStart}
 use Rattle.records.proofs.Names.{name-first, name-next, names-rise}
 use Rattle.names.specs.Name.{isName}
@@ -50,6 +52,17 @@ unfolding nameOf
 lent-is s from i at e =
     let size : at + 1 + getD s at 0 - (at + 1) ≡ getD s at 0 = omega arith in
     ap (λ (k : ℕ). take k (drop (at + 1) s)) size ∙ ap (λ (a : ℕ). take (getD s a 0) (drop (a + 1) s)) e
+
+-- a name that ends within the bytes has as many as its length byte says
+pub size-is : (s : List ℕ) (from i : ℕ) → nameStart s from i + 1 + getD s (nameStart s from i) 0 ≤ length s → length (nameOf s from i) ≡ getD s (nameStart s from i) 0
+unfolding nameOf
+size-is s from i h = length-take-le (getD s (nameStart s from i) 0) (drop (nameStart s from i + 1) s) (simp length-drop (omega (arith, h)))
+
+-- a text of another length is not that name
+pub size-apart : (s : List ℕ) (from i at : ℕ) → at ≡ nameStart s from i → at + 1 + getD s at 0 ≤ length s → (l : List ℕ) → (getD s at 0 ≡ length l → ⊥) → same (nameOf s from i) l ≡ false
+size-apart s from i at e h l n =
+    let size = size-is s from i (omega (arith, ap (λ (a : ℕ). a + 1 + getD s a 0) e)) in
+    sym (same-longer (nameOf s from i) l (λ f. n (ap (λ (a : ℕ). getD s a 0) e ∙ sym size ∙ f)))
 
 -- ---- the strain that has a name
 module _ (s : List ℕ) (from n : ℕ) (l : List ℕ) where

@@ -87,13 +87,15 @@ pub fn strain_of(s: &[u8], from: usize, n: usize, name: &[u8]) -> usize
     let mut at = from;
     let mut i = 0;
     while i < n {
+        let size = s[at] as usize;
         let start = at + 1;
-        let end = start + s[at] as usize;
-        if digits::same(&s[start..end], name) {
-            return i;
-        }
-        at = end;
+        at = start + size;
         i += 1;
+        if size == name.len() {
+            if digits::same(&s[start..at], name) {
+                return i - 1;
+            }
+        }
     }
     n
 }
