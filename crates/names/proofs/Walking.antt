@@ -1,5 +1,5 @@
 -- A walk over n names that lie within the bytes: name i begins at `at`, and the part that is lent of it is that name (`lent-is`).
-use mathlib.Core.Path.{_≡_, sym, ap, _∙_}
+use mathlib.Core.Path.{_≡_, sym, ap, ap₂, _∙_}
 use mathlib.Core.Bool.{Bool, true, false, not, _||_}
 use mathlib.Core.List.{List}
 use Prim.Native.Nat.{ℕ, suc, _+_, _-_, _<_, _≤_}
@@ -79,6 +79,9 @@ module _ (s : List ℕ) (from n : ℕ) (l : List ℕ) where
 module _ (s : List ℕ) (from i : ℕ) (l : List ℕ) (e : l ≡ nameOf s from i) where
   pub out-unformed : isName l ≡ false → true ≡ nameOut s from i
   out-unformed f = sym (ap (λ (b : Bool). not b || some i (λ j. same (nameOf s from j) (nameOf s from i))) (ap isName (sym e) ∙ f))
+
+  pub out-new : isName l ≡ true → some i (λ j. same (nameOf s from j) (nameOf s from i)) ≡ false → false ≡ nameOut s from i
+  out-new f g = sym (ap₂ (λ (b c : Bool). not b || c) (ap isName (sym e) ∙ f) g)
 
   pub out-repeated : isName l ≡ true → (k : ℕ) → k ≡ placeOf s from i l → ltb k i ≡ nameOut s from i
   unfolding placeOf
