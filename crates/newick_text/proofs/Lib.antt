@@ -7,3 +7,4 @@ pub mod Once
 pub mod Back
 pub mod Round
 pub mod Risen
+pub mod Worked
