@@ -12,9 +12,9 @@ use Rattle.exact.specs.Table.{entryOf, tableFrom}
 use Rattle.digits.specs.Digits.{run, numberFrom}
 use Rattle.writing.specs.Text.{digits}
 use Rattle.newick_text.specs.Length.{magnitudeOf, lengthSize, lengthThere, isLength, valueOf, thousandths, lengthText}
-use Rattle.newick_text.specs.Tree.{leaf, node, Row, none, some, textThen, textOf, tally, Formed}
+use Rattle.newick_text.specs.Tree.{leaf, node, Row, none, some, textThen, textOf, tally, Formed, maxOpen, maxText}
 use Rattle.newick_text.specs.Table.{rowFrom, treeBelow, treeOf, childrenOf, after, numberOf, filled}
-use Rattle.newick_text.specs.Tests.{edgesIn, parentsIn, numeratorsIn, namesWrong}
+use Rattle.newick_text.specs.Tests.{thousand, edgesIn, parentsIn, numeratorsIn, namesWrong}
 
 -- ---- lengths: `12.345`, `-0.001`, `0.000`
 abbrev each : List (List ℕ)
@@ -27,8 +27,8 @@ pub lengths : (map isLength each ≡ (true ∷ true ∷ true ∷ [])) × (map va
 unfolding isLength lengthThere lengthSize magnitudeOf valueOf thousandths lengthText digits run numberFrom
 lengths = (refl, refl, refl)
 
--- `-0.000`, `01.000`, `00.000`, `1.00`, `1.0000`, `.500`, `1,000`, `+1.000`, `1.5`, `-`
-pub no-lengths : map isLength ((45 ∷ 48 ∷ 46 ∷ 48 ∷ 48 ∷ 48 ∷ []) ∷ (48 ∷ 49 ∷ 46 ∷ 48 ∷ 48 ∷ 48 ∷ []) ∷ (48 ∷ 48 ∷ 46 ∷ 48 ∷ 48 ∷ 48 ∷ []) ∷ (49 ∷ 46 ∷ 48 ∷ 48 ∷ []) ∷ (49 ∷ 46 ∷ 48 ∷ 48 ∷ 48 ∷ 48 ∷ []) ∷ (46 ∷ 53 ∷ 48 ∷ 48 ∷ []) ∷ (49 ∷ 44 ∷ 48 ∷ 48 ∷ 48 ∷ []) ∷ (43 ∷ 49 ∷ 46 ∷ 48 ∷ 48 ∷ 48 ∷ []) ∷ (49 ∷ 46 ∷ 53 ∷ []) ∷ (45 ∷ []) ∷ []) ≡ (false ∷ false ∷ false ∷ false ∷ false ∷ false ∷ false ∷ false ∷ false ∷ false ∷ [])
+-- `-0.000`, `01.000`, `-01.000`, `00.000`, `1.00`, `1.0000`, `1.000x`, `.500`, `1,000`, `+1.000`, `-`
+pub no-lengths : map isLength ((45 ∷ 48 ∷ 46 ∷ 48 ∷ 48 ∷ 48 ∷ []) ∷ (48 ∷ 49 ∷ 46 ∷ 48 ∷ 48 ∷ 48 ∷ []) ∷ (45 ∷ 48 ∷ 49 ∷ 46 ∷ 48 ∷ 48 ∷ 48 ∷ []) ∷ (48 ∷ 48 ∷ 46 ∷ 48 ∷ 48 ∷ 48 ∷ []) ∷ (49 ∷ 46 ∷ 48 ∷ 48 ∷ []) ∷ (49 ∷ 46 ∷ 48 ∷ 48 ∷ 48 ∷ 48 ∷ []) ∷ (49 ∷ 46 ∷ 48 ∷ 48 ∷ 48 ∷ 120 ∷ []) ∷ (46 ∷ 53 ∷ 48 ∷ 48 ∷ []) ∷ (49 ∷ 44 ∷ 48 ∷ 48 ∷ 48 ∷ []) ∷ (43 ∷ 49 ∷ 46 ∷ 48 ∷ 48 ∷ 48 ∷ []) ∷ (45 ∷ []) ∷ []) ≡ (false ∷ false ∷ false ∷ false ∷ false ∷ false ∷ false ∷ false ∷ false ∷ false ∷ false ∷ [])
 unfolding isLength lengthThere lengthSize magnitudeOf run numberFrom
 no-lengths = refl
 
@@ -78,3 +78,7 @@ empty f = f .1
 pub deep : (l : List ℕ) → Formed (node (some (node (some (leaf (name 0)) l none)) l none)) 1 → ⊥
 unfolding Formed
 deep l f = let inner = f .2 .0 .0 in absurd (omega (arith, inner))
+
+-- ---- brackets that may be open at once, bytes of a text, what a numerator is over
+pub limits : (maxOpen ≡ 62) × (maxText ≡ 65536) × (thousand ≡ 1000)
+limits = (refl, refl, refl)
