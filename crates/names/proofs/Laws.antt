@@ -27,7 +27,7 @@ use Rattle.records.specs.Form.{headSize, namesKind, bodyAt, endAt, recordTests,
 use Rattle.records.proofs.Formed.{form-ends, names-many, names-end}
 use Rattle.names.specs.Name.{isNameByte, isName}
 use Rattle.names.specs.Record.{nameOf, nameOut, namesOut, placeOf, recordCount, namesTests}
-use Rattle.names.proofs.Walking.{name-ends}
+use Rattle.names.proofs.Walking.{name-ends, size-is}
 use Rattle.names.proofs.Lent.{record-whole, ends-with}
 pub use Rattle.records.proofs.Names.{name-first, name-next, names-rise, names-far, count-ends}
 pub use Rattle.names.proofs.Settled.{one-named}
@@ -64,9 +64,7 @@ module _ (l : List ℕ) (e : isName l ≡ true) where
 module _ (s : List ℕ) (from n : ℕ) (w : nameStart s from n ≤ length s) where
   -- name i has as many bytes as its length byte says
   pub name-size : (i : ℕ) → i < n → length (nameOf s from i) ≡ getD s (nameStart s from i) 0
-  unfolding nameOf
-  name-size i h = let end = name-ends s from n i h in
-      length-take-le (getD s (nameStart s from i) 0) (drop (nameStart s from i + 1) s) (simp length-drop (omega (arith, end)))
+  name-size i h = size-is s from i (omega (arith, name-ends s from n i h))
 
 -- the names of a sheet with names lie within it
 pub sheet-within : (s : List ℕ) → formTests 4 s ≡ pass → nameStart s (bodyAt (startOf s 3)) (number 2 s (bodyAt 0)) ≤ length s

@@ -1,4 +1,5 @@
 pub mod Walking
+pub mod Keys
 pub mod Lent
 pub mod Settled
 pub mod Laws

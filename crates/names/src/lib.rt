@@ -7,14 +7,19 @@ use verdict::Reason;
 use verdict::Refusal;
 use verdict::Verdict;
 ghost use mathlib.Core.Path.{_≡_};
-ghost use Prim.Native.Nat.{_+_, _≤_};
+ghost use mathlib.Core.Bool.{false};
+ghost use Prim.Native.Nat.{_+_, _<_, _≤_};
 ghost use lib.ListN.{length, drop};
 ghost use Rattle.exact.specs.Table.{table, padded};
 ghost use Rattle.matrix.specs.Limits.{maxStrains};
-ghost use Rattle.digits.specs.Digits.{run};
+ghost use Rattle.verdict.specs.Table.{some};
+ghost use Rattle.digits.specs.Digits.{run, same};
 ghost use Rattle.records.specs.Names.{nameStart};
-ghost use Rattle.names.specs.Name.{isLetter, isNameByte, isName};
-ghost use Rattle.names.specs.Record.{nameOut, namesOut, placeOf, NamesAnswer};
+ghost use Rattle.names.specs.Name.{isLetter, isNameByte, isName, keys, keyFrom};
+ghost use Rattle.names.specs.Record.{nameOf, nameOut, namesOut, placeOf, NamesAnswer};
+
+// The keys that names may have.
+const KEYS: usize = 256;
 
 // The answer to a names record that is lent by itself, and how many names it has; 0 where it is refused.
 pub struct Named {
@@ -87,20 +92,36 @@ pub fn strain_of(s: &[u8], from: usize, n: usize, name: &[u8]) -> usize
     let mut at = from;
     let mut i = 0;
     while i < n {
+        let size = s[at] as usize;
         let start = at + 1;
-        let end = start + s[at] as usize;
-        if digits::same(&s[start..end], name) {
-            return i;
-        }
-        at = end;
+        at = start + size;
         i += 1;
+        if size == name.len() {
+            if digits::same(&s[start..at], name) {
+                return i - 1;
+            }
+        }
     }
     n
 }
 
-// Whether name i, which begins at `at`, is not of the form or is one of those before it.
-fn name_out(s: &[u8], from: usize, i: usize, at: usize) -> bool
+// A number below 256 for bytes, the same for the same bytes.
+fn key_of(bytes: &[u8]) -> usize
+    ensures { λ r. ⌜ (r ≡ keyFrom 0 (now (bytes .entry))) × (r < keys) ⌝ }
+{
+    let mut key = 0;
+    let mut k = 0;
+    while k < bytes.len() {
+        key = (key * 31 + bytes[k] as usize) % KEYS;
+        k += 1;
+    }
+    key
+}
+
+// Whether name i, which begins at `at`, is not of the form or is one of those before it; none of them is it unless its key is known.
+fn name_out(s: &[u8], from: usize, i: usize, at: usize, known: bool) -> bool
     requires { ⌜ (at ≡ nameStart (now s) from i) × (nameStart (now s) from (i + 1) ≤ length (now s)) ⌝ }
+    requires { ⌜ (known ≡ false → some i (λ j. same (nameOf (now s) from j) (nameOf (now s) from i)) ≡ false) ⌝ }
     ensures { λ r. ⌜ r ≡ nameOut (now (s .entry)) from i ⌝ }
 {
     let start = at + 1;
@@ -108,21 +129,35 @@ fn name_out(s: &[u8], from: usize, i: usize, at: usize) -> bool
     if !is_name(&s[start..end]) {
         return true;
     }
+    if !known {
+        return false;
+    }
     strain_of(s, from, i, &s[start..end]) < i
 }
 
-// 28: whether one of `n` names is not of the form or repeated.
+fn no_keys() -> [u8; KEYS]
+    ensures { λ r. ⌜ length r ≡ keys ⌝ }
+{
+    [0; KEYS]
+}
+
+// 28: whether one of `n` names is not of the form or repeated. A name is looked for among those before it only where one of them has its key.
 pub fn names_out(s: &[u8], from: usize, n: usize) -> bool
     requires { ⌜ nameStart (now s) from n ≤ length (now s) ⌝ }
     ensures { λ r. ⌜ r ≡ namesOut (now (s .entry)) from n ⌝ }
 {
+    let mut known = no_keys();
     let mut at = from;
     let mut i = 0;
     while i < n {
-        if name_out(s, from, i, at) {
+        let start = at + 1;
+        let end = start + s[at] as usize;
+        let key = key_of(&s[start..end]);
+        if name_out(s, from, i, at, known[key] == 1) {
             return true;
         }
-        at = at + 1 + s[at] as usize;
+        known[key] = 1;
+        at = end;
         i += 1;
     }
     false

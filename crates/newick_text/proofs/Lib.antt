@@ -16,3 +16,4 @@ pub mod Counting
 pub mod Using
 pub mod Filling
 pub mod Sample
+pub mod Worked

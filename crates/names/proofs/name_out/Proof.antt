@@ -5,13 +5,13 @@ use native.Mathlib.Omega.{arith}
 use borrow.Author.Needs.{needs}
 use borrow.Author.Tests.{not-true, not-false}
 use lib.ListN.{length, getD}
-use Rattle.names.proofs.Walking.{name-within, lent-is, out-unformed, out-repeated}
+use Rattle.names.proofs.Walking.{name-within, lent-is, out-unformed, out-new, out-repeated}
 use Rattle.names.proofs.name_out.Statement.{statement}
 use Rattle.names.proofs.name_out.Tie as tie
 
 -- the name ends within the bytes
 room : (p : tie.Start) → p .args .at + 1 + getD (p .args .s .now) (p .args .at) 0 ≤ length (p .args .s .now)
-room p = name-within (p .args .s .now) (p .args .from) (p .args .i) (p .args .at) (p .pre .0) (p .pre .1)
+room p = name-within (p .args .s .now) (p .args .from) (p .args .i) (p .args .at) (p .pre .0 .0) (p .pre .0 .1)
 
 add-start : tie.Need-add-start
 add-start c = record { fits = omega (arith, room (c .before)) }
@@ -39,7 +39,11 @@ is-name-requires c κs = search needs
 
 returns : tie.Need-returns
 returns c = let p = c .before .before .before .before .before in let a = p .args in
-    out-unformed (a .s .now) (a .from) (a .i) _ (lent-is (a .s .now) (a .from) (a .i) (a .at) (p .pre .0)) (sym (c .before .is-name .ensures) ∙ not-true _ (c .if1 .taken))
+    out-unformed (a .s .now) (a .from) (a .i) _ (lent-is (a .s .now) (a .from) (a .i) (a .at) (p .pre .0 .0)) (sym (c .before .is-name .ensures) ∙ not-true _ (c .if1 .taken))
+
+returns-2 : tie.Need-returns-2
+returns-2 c = let p = c .before .before .before .before .before .before in let a = p .args in
+    out-new (a .s .now) (a .from) (a .i) _ (lent-is (a .s .now) (a .from) (a .i) (a .at) (p .pre .0 .0)) (sym (c .before .before .is-name .ensures) ∙ not-false _ (c .before .if1 .left)) (p .pre .1 (not-true _ (c .if2 .taken)))
 
 sub-strain-of : tie.Need-sub-strain-of
 sub-strain-of c = search needs
@@ -48,14 +52,14 @@ part-strain-of-start : tie.Need-part-strain-of-start
 part-strain-of-start c = search needs
 
 part-strain-of-end : tie.Need-part-strain-of-end
-part-strain-of-end c = room (c .before .before .before .before .before)
+part-strain-of-end c = room (c .before .before .before .before .before .before)
 
 strain-of-requires : tie.Need-strain-of-requires
-strain-of-requires c κs = let p = c .before .before .before .before .before .before in omega (arith, room p, p .pre .0)
+strain-of-requires c κs = let p = c .before .before .before .before .before .before .before in omega (arith, room p, p .pre .0 .0)
 
-returns-2 : tie.Need-returns-2
-returns-2 c = let p = c .before .before .before .before .before .before .before in let a = p .args in
-    out-repeated (a .s .now) (a .from) (a .i) _ (lent-is (a .s .now) (a .from) (a .i) (a .at) (p .pre .0)) (sym (c .before .before .before .is-name .ensures) ∙ not-false _ (c .before .before .if1 .left)) _ (c .strain-of .ensures)
+returns-3 : tie.Need-returns-3
+returns-3 c = let p = c .before .before .before .before .before .before .before .before in let a = p .args in
+    out-repeated (a .s .now) (a .from) (a .i) _ (lent-is (a .s .now) (a .from) (a .i) (a .at) (p .pre .0 .0)) (sym (c .before .before .before .before .is-name .ensures) ∙ not-false _ (c .before .before .before .if1 .left)) _ (c .strain-of .ensures)
 
 pub name-out-spec : {M : Type 1} → statement M
 name-out-spec =
@@ -70,8 +74,9 @@ name-out-spec =
     part-is-name-end
     is-name-requires
     returns
+    returns-2
     sub-strain-of
     part-strain-of-start
     part-strain-of-end
     strain-of-requires
-    returns-2)
+    returns-3)
