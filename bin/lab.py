@@ -222,13 +222,17 @@ class Matrix:
         # so much may be taken for a name here that such a reading is good only where every name is a leaf's
         self.whole_names, _ = readings_of(source, (before_distances,))
 
+    def readings_for(self, leaves):
+        return self.readings + [rows for rows in self.whole_names if shared_names(rows, leaves) == len(rows)]
+
+    def serves(self, leaves):
+        return bool(self.readings_for(leaves))
+
     def rows_for(self, leaves):
         """The rows in the reading in which more of the names are those of the leaves."""
-        whole = [rows for rows in self.whole_names if shared_names(rows, leaves) == len(rows)]
-        rows = max(self.readings + whole, key=lambda rows: shared_names(rows, leaves), default=None)
-        if rows is None:
+        if not self.serves(leaves):
             raise self.fault
-        return rows
+        return max(self.readings_for(leaves), key=lambda rows: shared_names(rows, leaves))
 
 
 def readings_of(source, parts):
@@ -484,10 +488,14 @@ def or_only_child(vertex):
 # ---- the two together
 def tie(matrix, tree, top):
     """The rows of the matrix, read in the way in which its names are the tree's. The leaves get their numbers."""
-    leaves = [vertex for vertex in children_first(top) if not vertex.children]
+    leaves = leaves_of(top)
     rows = matrix.rows_for(leaves)
     number_leaves(matrix.source, rows, tree, leaves)
     return rows
+
+
+def leaves_of(top):
+    return [vertex for vertex in children_first(top) if not vertex.children]
 
 
 def name_among(leaf, names):
@@ -547,7 +555,7 @@ def is_resolved(n, parents):
 def edge_words(edge):
     if not edge.children:
         return shown(edge.name)
-    names = [vertex.name for vertex in children_first(edge) if not vertex.children]
+    names = [leaf.name for leaf in leaves_of(edge)]
     return f"the bracket of {shown(names[0])} to {shown(names[-1])}"
 
 
