@@ -79,7 +79,7 @@ class Text:
 def read_all(descriptor, longest):
     """The bytes to the end, or more than a text may have. No buffer stands between: there a pipe that is not
     ready would look like one that has ended, and here it is an error."""
-    data = b""
+    data = bytearray()
     while len(data) <= longest:
         part = os.read(descriptor, LONGEST_TEXT)
         if not part:
@@ -254,9 +254,8 @@ class Distances:
     def __init__(self, source, rows, unit_word, rounding):
         self.notes, self.rounding = [], rounding
         self.values = [[None if word in MISSING_WORDS else number(word) for word, _ in row.cells] for row in rows]
-        if unit_word == "auto":
-            unit_word = self.fitting_unit()
-        self.unit, self.unit_word = number(unit_word), unit_word
+        self.unit = self.fitting_unit() if unit_word == "auto" else number(unit_word)
+        self.unit_word = at_most(self.unit) if unit_word == "auto" else unit_word
         for i, row in enumerate(rows):
             for j, (word, k) in enumerate(row.cells):
                 due = self.cell_due(rows, i, j)
@@ -269,24 +268,24 @@ class Distances:
         """The smallest power of ten that brings the largest distance to 50,000 units or fewer."""
         largest = max((value for row in self.values for value in row if value is not None), default=0)
         if largest <= 0:
-            return USUAL_UNIT
+            return number(USUAL_UNIT)
         power = Fraction(1)
         while largest > FARTHEST * power:
             power *= 10
         while largest <= FARTHEST * power / 10:
             power /= 10
         self.notes.append(f"the unit is {at_most(power)}; the largest distance has {at_most(largest / power)} of it")
-        return at_most(power)
+        return power
 
     def cell_due(self, rows, i, j):
         """What a cell of the matrix should be and is not, or None."""
         value = self.values[i][j]
         if i == j:
             return None if value == 0 else "0 on the diagonal"
-        if j < i < len(rows[j].cells):
+        if j < i < len(rows[j].cells) and value != self.values[j][i]:
             (word, _), (other, line) = rows[i].cells[j], rows[j].cells[i]
             near = near_halves(word, other)
-            if value != self.values[j][i] and not (near and self.rounding):
+            if not near or not self.rounding:
                 as_one = "; --round takes the two as one" if near else ""
                 return f"{shown(other)}, as in the other half (line {line}{as_one})"
         if value is None:
@@ -329,6 +328,8 @@ def near_halves(word, other):
 class Vertex:
     """A vertex of the tree as written. `length` is that of the edge above it, None where none is given, and `words` the
     numbers that it was written in; `number` is its number in the sheet."""
+
+    __slots__ = "line", "name", "quoted", "length", "number", "children", "words"
 
     def __init__(self, line):
         self.line, self.name, self.quoted, self.length, self.number = line, None, False, None, None
