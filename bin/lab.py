@@ -219,20 +219,26 @@ class Matrix:
         self.readings, faults = readings_of(source, (ten_bytes, first_word))
         # where none is right, the right reading is the one that got further
         self.fault = max(faults, key=lambda fault: fault.line, default=None)
-        # so much may be taken for a name here that such a reading is good only where every name is a leaf's
-        self.whole_names, _ = readings_of(source, (before_distances,))
+        self.whole_names = None
 
-    def readings_for(self, leaves):
-        return self.readings + [rows for rows in self.whole_names if shared_names(rows, leaves) == len(rows)]
+    def with_whole_names(self, leaves):
+        """The readings with all that comes before the distances for a name. So much may be taken for one there that such a reading
+        is good only where every name is a leaf's."""
+        if self.whole_names is None:
+            self.whole_names, _ = readings_of(self.source, (before_distances,))
+        return [rows for rows in self.whole_names if shared_names(rows, leaves) == len(rows)]
 
     def serves(self, leaves):
-        return bool(self.readings_for(leaves))
+        return bool(self.readings or self.with_whole_names(leaves))
 
     def rows_for(self, leaves):
         """The rows in the reading in which more of the names are those of the leaves."""
-        if not self.serves(leaves):
+        rows = max(self.readings, key=lambda rows: shared_names(rows, leaves), default=None)
+        if rows is None or shared_names(rows, leaves) < len(rows):
+            rows = next(iter(self.with_whole_names(leaves)), rows)
+        if rows is None:
             raise self.fault
-        return max(self.readings_for(leaves), key=lambda rows: shared_names(rows, leaves))
+        return rows
 
 
 def readings_of(source, parts):
