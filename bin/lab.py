@@ -255,7 +255,7 @@ def readings_of(source, parts):
 
 class Distances:
     """The distances of a matrix in whole units: `square` has them, MISSING where nobody measured; `unit` is what one is in the
-    files, and `notes` are what whoever asked should be told of it."""
+    files, `moved` by how much a distance was rounded at most, and `notes` are what whoever asked should be told of it."""
 
     def __init__(self, source, rows, unit_word, rounding):
         self.notes, self.rounding = [], rounding
