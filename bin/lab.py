@@ -211,8 +211,8 @@ def read_cells(source, due, n, row, k, line):
 
 
 class Matrix:
-    """A matrix's text, read in every way in which it can be: a name is ten bytes, or ends at the first blank, or is all that comes
-    before the distances; and the rows are those of a square or of a lower triangle."""
+    """A matrix's text, read in every way in which it can be: a name is ten bytes, or ends at the first blank, or is all that
+    comes before the distances; and the rows are those of a square or of a lower triangle."""
 
     def __init__(self, source):
         self.source = source
@@ -222,8 +222,8 @@ class Matrix:
         self.whole_names = None
 
     def with_whole_names(self, leaves):
-        """The readings with all that comes before the distances for a name. So much may be taken for one there that such a reading
-        is good only where every name is a leaf's."""
+        """The readings with all that comes before the distances for a name. So much may be taken for one there that such a
+        reading is good only where every name is a leaf's."""
         if self.whole_names is None:
             self.whole_names, _ = readings_of(self.source, (before_distances,))
         return [rows for rows in self.whole_names if shared_names(rows, leaves) == len(rows)]
@@ -319,7 +319,8 @@ class Distances:
                 measured, rounded, most = measured + 1, rounded + (moved > 0), max(most, moved)
         self.moved = most
         if self.rounding:
-            self.notes.append(f"{rounded} of {measured} distances rounded to units of {self.unit_word}, by at most {at_most(most)}")
+            self.notes.append(f"{rounded} of {measured} distances rounded to units of {self.unit_word}, "
+                              f"by at most {at_most(most)}")
         return square
 
 
