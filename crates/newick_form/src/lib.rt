@@ -1,14 +1,13 @@
 // The form of a tree in text (RULES, Trees in text), judged before anything is read from it. The judge calls itself for each bracket that
 // opens within another, 62 at the most, and goes along the vertices of one bracket in a loop: so their number is no matter.
+use newick_words::MAX_TEXT;
 ghost use mathlib.Core.Path.{_≡_};
 ghost use Prim.Native.Nat.{_≤_};
 ghost use lib.ListN.{length};
 ghost use Rattle.newick_text.specs.Count.{occurs};
 ghost use Rattle.newick_form.specs.Form.{FormRead, TextRead};
 
-// The most bytes of a text, and the most brackets that may be open at once.
-pub const MAX_TEXT: usize = 65_536;
-
+// The most brackets that may be open at once.
 pub const MAX_OPEN: usize = 62;
 
 // Where a vertex ends, or that none stands there.

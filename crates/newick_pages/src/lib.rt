@@ -1,6 +1,6 @@
 // What is shown of a sheet with names: the text of its fitted tree and a line end, or its refusal, at the front of a lent buffer of a page
 // or more.
-use newick_write::MAX_TEXT;
+use newick_words::MAX_TEXT;
 use verdict::Verdict;
 ghost use mathlib.Core.Path.{_≡_};
 ghost use lib.ListN.{length};

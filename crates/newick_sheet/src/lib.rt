@@ -1,7 +1,7 @@
 // The fitted tree of a sheet with names as Newick text: the sheet is judged as any other, with its names between the form and what its
 // records hold, and written after.
 use names::Named;
-use newick_write::MAX_TEXT;
+use newick_words::MAX_TEXT;
 use newick_write::Written;
 use records::Layout;
 use tree::Tree;

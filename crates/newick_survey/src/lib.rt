@@ -1,6 +1,7 @@
 // A text beside a names record, gone through once: what they are refused for, or how many strains and edges there are and the tables. The
 // form is judged first and the leaves are counted, so that the filling, which calls itself for each vertex, meets few.
 use matrix::Matrix;
+use newick_words::THOUSAND;
 use records::Layout;
 use tree::Tree;
 use verdict::Place;
@@ -23,9 +24,6 @@ ghost use Rattle.names.specs.Record.{placeOf};
 ghost use Rattle.newick_text.specs.Tree.{Row, Text};
 ghost use Rattle.newick_form.specs.Form.{Found};
 ghost use Rattle.newick_survey.specs.Text.{tableTests, Entered, TextSurvey, Surveyed};
-
-// Lengths are thousandths.
-const DENOMINATOR: u32 = 1000;
 
 // 6: whether a count is not one of strains.
 fn strains_out(n: usize) -> bool
@@ -96,7 +94,7 @@ fn judged(n: usize, edges: usize, found: Tables) -> Verdict
     let parents = found.parents;
     let numerators = found.numerators;
     let of_tree = tree::check_tree(n as u32, &parents[..edges]);
-    let of_lengths = lengths::check_lengths(edges, DENOMINATOR, &numerators[..edges]);
+    let of_lengths = lengths::check_lengths(edges, THOUSAND, &numerators[..edges]);
     verdict::or_else(of_tree, of_lengths)
 }
 

@@ -1,8 +1,8 @@
 // Reads a names record with a tree in text right behind it from standard input and prints the tree's table, or `refused`, the number and the
 // place. Where reading fails it prints nothing.
 use matrix::Matrix;
-use newick_form::MAX_TEXT;
 use newick_survey::Survey;
+use newick_words::MAX_TEXT;
 use records::Layout;
 use tree::Tree;
 use verdict::Verdict;

@@ -10,6 +10,12 @@ ghost use Rattle.digits.specs.Digits.{most, atMost};
 ghost use Rattle.newick_text.specs.Length.{signSize, pointAt, magnitudeOf, lengthThere, valueOf};
 ghost use Rattle.newick_words.specs.Words.{nameWidth, edgeWidth, cut};
 
+// The most bytes of a text, and the bytes of a buffer for one.
+pub const MAX_TEXT: usize = 65_536;
+
+// Lengths are thousandths.
+pub const THOUSAND: u32 = 1000;
+
 // Where the name at a place ends, that place where none stands there.
 pub fn name_end(text: &[u8], at: usize) -> usize
     requires { ⌜ at ≤ length (now text) ⌝ }

@@ -2,6 +2,8 @@
 // filled after. Nothing behind the text changes, and a refusal changes nothing.
 use matrix::Matrix;
 use names::Named;
+use newick_words::MAX_TEXT;
+use newick_words::THOUSAND;
 use records::Layout;
 use verdict::Reason;
 use verdict::Refusal;
@@ -10,12 +12,6 @@ ghost use mathlib.Core.Path.{_≡_};
 ghost use lib.ListN.{length};
 ghost use Rattle.writing.specs.Text.{Wrote};
 ghost use Rattle.newick_write.specs.Answers.{treeText, strainsCut, Tellable, Judged, WriteAnswer, NumberAnswer};
-
-// The bytes of a text at most, and of a buffer for one.
-pub const MAX_TEXT: usize = 65_536;
-
-// Lengths are thousandths.
-pub const THOUSAND: u32 = 1000;
 
 // What came of writing: the answer, and how many bytes the text has, 0 where it is refused.
 pub struct Written {
