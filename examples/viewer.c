@@ -44,7 +44,7 @@ static const char *words_for(uint32_t number) {
 }
 
 /* One byte more than a sheet may have is enough to know that it is too long. */
-enum { READ_AT_MOST = 5188 };
+enum { READ_AT_MOST = VAMUTHEXA_MAX_SHEET + 1 };
 
 /* The verdict on one file, or its print: 0 accepted, 1 refused, 2 not read. */
 static int show(const char *name, int whole, int drawn) {
