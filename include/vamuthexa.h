@@ -3,9 +3,9 @@
  * names) and the texts, and says what each number means.
  *
  * Every function is proved: it answers whatever it is lent, and reads and writes nothing outside that. A pointer may
- * be null where its length is 0; the `length` that two writers fill may not. Nothing is kept between two calls: no
- * function has memory of its own but the stack, so any number of threads may call any of them at once, as long as no
- * buffer that one of them writes is lent to another.
+ * be null where its length is 0, which bench/stack.c tries of each; the `length` that two writers fill may not be.
+ * Nothing is kept between two calls: no function has memory of its own but the stack, so any number of threads may
+ * call any of them at once, as long as no buffer that one of them writes is lent to another.
  *
  * Tables are on the stack. A verdict takes 23,400 bytes of it, a print of a sheet at most 34,700, newick_print 33,500,
  * newick_read 45,100 and each of the others less, as measured with the largest sheets and the deepest trees; 64 KiB are
