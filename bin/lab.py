@@ -72,7 +72,10 @@ class Text:
                 return read_all(opened.fileno(), longest)
         if sys.stdin is None:
             raise Fault("standard input is closed", self)
-        return read_all(sys.stdin.fileno(), longest)
+        data = read_all(sys.stdin.fileno(), longest)
+        if not data:
+            raise Fault("standard input was empty", self)
+        return data
 
     def fault(self, line, message):
         return Fault(message, self, line)
