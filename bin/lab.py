@@ -4,7 +4,9 @@ trusted: the proved programs judge the sheets."""
 import math
 import os
 import re
+import signal
 import struct
+import subprocess
 import sys
 from fractions import Fraction
 
@@ -70,7 +72,10 @@ class Text:
                 return read_all(opened.fileno(), longest)
         if sys.stdin is None:
             raise Fault("standard input is closed", self)
-        return read_all(sys.stdin.fileno(), longest)
+        data = read_all(sys.stdin.fileno(), longest)
+        if not data:
+            raise Fault("standard input was empty", self)
+        return data
 
     def fault(self, line, message):
         return Fault(message, self, line)
@@ -785,6 +790,39 @@ def lengths_record(denominator, numerators):
 
 
 # ---- standard output and standard error
+class Stopped(BaseException):
+    """A signal that asks for the end. What was started in between is ended first, and then this program by the same signal."""
+
+    def __init__(self, number):
+        super().__init__()
+        self.number = number
+
+
+def hear_signals():
+    """Has signals that ask for the end raise Stopped. One that is ignored, as in the background, stays so."""
+    for number in (signal.SIGHUP, signal.SIGINT, signal.SIGTERM):
+        if signal.getsignal(number) != signal.SIG_IGN:
+            signal.signal(number, stopped)
+
+
+def stopped(number, _):
+    raise Stopped(number)
+
+
+def end_by(number):
+    signal.signal(number, signal.SIG_DFL)
+    os.kill(os.getpid(), number)
+
+
+def version():
+    """Which version this is, as all programs say it."""
+    try:
+        return subprocess.run([os.path.join(os.path.dirname(os.path.realpath(__file__)), "version")], stdin=subprocess.DEVNULL,
+                              stdout=subprocess.PIPE, check=True).stdout
+    except (OSError, subprocess.CalledProcessError):
+        raise Fault("cannot say which version this is")
+
+
 def tell(program, words):
     if sys.stderr is not None:
         sys.stderr.buffer.write(f"{program}: {words}\n".encode("latin-1", "replace"))

@@ -14,31 +14,14 @@
 
 static const char *const words[] = {
     "accepted: the lengths are the least-squares fit to this matrix on this tree",
-    "the sheet is longer than 5,187 bytes",
-    "a record is cut short",
-    "a record is not of the kind that is due",
-    "a record's length does not match its counts",
-    "bytes follow the third record",
-    "the number of strains is not 3 to 64",
-    "a distance is above 50,000 and not the mark of a missing pair",
-    "the tree is for another number of strains, or has too few or too many vertices",
-    "a parent is not above its child, or is a strain",
-    "an inner vertex has too few children",
-    "there is not one numerator for each edge",
-    "the denominator is not 1 to 1,000,000",
-    "a numerator is beyond its range",
-    "the lengths are not the fit: for some edge observed and tree distance differ in sum",
-    "a lent buffer does not have the exact length",
-    "a parent is past the root",
-    [VAMUTHEXA_NEGATIVE] = "a length is negative",
-    [VAMUTHEXA_ZERO_EDGE] = "the lengths are not the fit: an edge of length zero would fit better if it were longer",
-    [VAMUTHEXA_UNMEASURED] = "an edge parts no pair that was measured",
+#define WORDS(number, means, look) [number] = means,
+#include "vamuthexa_words.h"
 };
 
 static const char *const accepted_drawn =
     "accepted: the lengths are the least-squares fit to this matrix on this tree among those without a negative one";
 
-/* The words for a number. 17 to 21, 24 and 25 are never given for a sheet with lengths. */
+/* The words for a number; they are the same that the programs at the shell say with --words. */
 static const char *words_for(uint32_t number) {
     return number < sizeof words / sizeof words[0] && words[number] != NULL ? words[number] : "unknown";
 }

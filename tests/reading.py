@@ -104,12 +104,16 @@ def path(below, table, i, j):
 def edge_sums(n, distances, parents, denominator, numerators):
     """For each edge the remainders added over the measured pairs that it parts."""
     below = clusters(n, parents)
-    remainders = [(denominator * d - path(below, numerators, i, j), i, j) for d, i, j in measured_of(n, distances)]
-    return [sum(r for r, i, j in remainders if parts(below[v], i, j)) for v in range(len(parents))]
+    return parted(below, [(denominator * d - path(below, numerators, i, j), i, j) for d, i, j in measured_of(n, distances)])
 
 
 def split_sums(n, distances, parents):
-    return edge_sums(n, distances, parents, 1, [0] * len(parents))
+    return parted(clusters(n, parents), measured_of(n, distances))
+
+
+def parted(below, values):
+    """For each edge the values added over the pairs that it parts; a value stands before its pair."""
+    return [sum(x for x, i, j in values if (i in cluster) != (j in cluster)) for cluster in below[:-1]]
 
 
 # ---- the two verdicts: the first word of an accepted sheet's report, and the tests behind 13. Each test is made over

@@ -41,17 +41,22 @@ def solve_sums(n, parents, wanted):
             neither = n - both - only_u - only_v
             row.append(both * neither + only_u * only_v)
         rows.append(row)
+    # what stands left of a pivot is done with, so each row is worked from there on only, and the lengths come from below
     work = [[x % PRIME for x in row] + [w % PRIME] for row, w in zip(rows, wanted)]
     for column in range(edges):
         pivot = next(r for r in range(column, edges) if work[r][column])
         work[column], work[pivot] = work[pivot], work[column]
         inverse = pow(work[column][column], -1, PRIME)
-        work[column] = [x * inverse % PRIME for x in work[column]]
-        for r in range(edges):
-            if r != column and work[r][column]:
-                factor = work[r][column]
-                work[r] = [(x - factor * y) % PRIME for x, y in zip(work[r], work[column])]
-    lengths = [read_back(row[edges]) for row in work]
+        top = work[column] = [x * inverse % PRIME for x in work[column][column:]]
+        for r in range(column + 1, edges):
+            factor = work[r][column]
+            if factor:
+                work[r][column:] = [(x - factor * y) % PRIME for x, y in zip(work[r][column:], top)]
+    residues = [0] * edges
+    for column in reversed(range(edges)):
+        _, *known, right = work[column]
+        residues[column] = (right - sum(x * y for x, y in zip(known, residues[column + 1:]))) % PRIME
+    lengths = [read_back(residue) for residue in residues]
     for row, w in zip(rows, wanted):
         if sum(a * b for a, b in zip(row, lengths)) != w:
             raise ValueError("the prime is too small for this fit")
