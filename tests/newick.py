@@ -689,7 +689,8 @@ def large_files(directory):
     """The large texts as inputs, and the deepest tree that is taken, of 64 strains; with what is due of each."""
     names = [b"s%d" % k for k in range(64)]
     deepest = text_of(names, table_of(caterpillar(64), 64), [k - 60 for k in range(125)])
-    inputs = [record + text for record, text, _, _ in large_texts()] + [names_record(names) + deepest]
+    # 6,000 names ask for no stack, and comparing them takes more steps than the interpreter is given (10,000,000)
+    inputs = [record + text for record, text, _, due in large_texts() if due != 6] + [names_record(names) + deepest]
     for k, data in enumerate(inputs):
         with open(os.path.join(directory, "%d.stdin" % k), "wb") as file:
             file.write(data)
