@@ -91,9 +91,9 @@ fn children(
     ensures { λ r. ⌜ ((v : Children (now (text .entry)) at) → TookAll (placeOf (now (names .entry)) from n) (now (text .entry)) at next (now (parents .entry)) (now (parents .exit)) (now (numerators .entry)) (now (numerators .exit)) r v) ⌝ }
 {
     let child = vertex(text, at, next, names, from, n, parents, numerators);
-    let colon = child.end;
-    let numerator = newick_words::length_value(text, colon + 1);
-    let end = newick_words::edge_end(text, colon);
+    let edge = newick_words::edge_at(text, child.end);
+    let numerator = edge.thousandths;
+    let end = edge.end;
     if digits::byte_at(text, end) == b')' {
         put(parents, numerators, child.number, child.next, numerator);
         return Step {

@@ -3,6 +3,7 @@
 use newick_words::MAX_TEXT;
 ghost use mathlib.Core.Path.{_≡_};
 ghost use Prim.Native.Nat.{_≤_};
+ghost use lib.Dec.{eqb};
 ghost use lib.ListN.{length};
 ghost use Rattle.newick_text.specs.Count.{occurs};
 ghost use Rattle.newick_form.specs.Form.{FormRead, TextRead};
@@ -37,7 +38,7 @@ fn form(text: &[u8], at: usize, room: usize) -> End
         let End::At(end) = child else {
             return End::Nowhere;
         };
-        let edge = newick_words::edge_end(text, end);
+        let edge = newick_words::edge_at(text, end).end;
         if edge == end {
             return End::Nowhere;
         }
@@ -72,17 +73,20 @@ pub fn is_text(text: &[u8]) -> bool
     end + 1 == text.len()
 }
 
-// How often a byte stands in a text.
-pub fn count_byte(text: &[u8], byte: u8) -> usize
-    ensures { λ r. ⌜ (r ≡ occurs byte (now (text .entry))) × (r ≤ length (now (text .entry))) ⌝ }
+// Whether a byte stands so many times in a text; the first one too many tells.
+pub fn count_is(text: &[u8], byte: u8, count: usize) -> bool
+    ensures { λ r. ⌜ r ≡ eqb (occurs byte (now (text .entry))) count ⌝ }
 {
-    let mut count = 0;
+    let mut left = count;
     let mut k = 0;
     while k < text.len() {
         if text[k] == byte {
-            count += 1;
+            if left == 0 {
+                return false;
+            }
+            left -= 1;
         }
         k += 1;
     }
-    count
+    left == 0
 }

@@ -1,18 +1,26 @@
--- The words at the front of a text (RULES, Trees in text), by how many bytes they have, 0 where none stands there; and a length's
--- thousandths, cut where no length may go.
-use mathlib.Core.Bool.{cond, _&&_}
+-- The words at the front of a text (RULES, Trees in text), by how many bytes they have, 0 where none stands there; a length's
+-- thousandths, cut where no length may go; and what reading digits, a length, and a length behind its colon gives.
+use mathlib.Core.Path.{_≡_}
+use mathlib.Core.Bool.{true, cond, _&&_}
 use mathlib.Core.List.{List}
-use Prim.Native.Nat.{ℕ, suc, _+_}
+use Prim.Native.Nat.{ℕ, suc, _+_, _≤_}
 use lib.Dec.{eqb, leb}
 use lib.IntN.{ℤ, pos, negsuc, negℤ}
-use lib.ListN.{getD, drop}
-use Rattle.digits.specs.Digits.{run, atMost}
+use lib.ListN.{length, getD, drop}
+use lib.Seq.{slice}
+use Rattle.digits.specs.Digits.{run, isDigit, most, atMost, numberFrom}
 use Rattle.names.specs.Name.{maxName, isNameByte}
-use Rattle.newick_text.specs.Length.{lengthThere, lengthSize}
+use Rattle.newick_text.specs.Length.{lengthThere, lengthSize, valueOf}
+use Rattle.newick_words.specs.declared.Digits.{Digits}
+use Rattle.newick_words.specs.declared.Length.{Length}
 
 -- a name, with no byte behind it that could be in one
 unfoldable pub nameWidth : List ℕ → ℕ
 nameWidth l = cond (leb (run isNameByte l) maxName) (run isNameByte l) 0
+
+-- a length
+unfoldable pub lengthWidth : List ℕ → ℕ
+lengthWidth l = cond (lengthThere l) (lengthSize l) 0
 
 -- a colon and a length
 unfoldable pub edgeWidth : List ℕ → ℕ
@@ -22,3 +30,23 @@ edgeWidth l = cond (eqb (getD l 0 0) 58 && lengthThere (drop 1 l)) (1 + lengthSi
 unfoldable pub cut : ℤ → ℤ
 cut (pos n) = pos (atMost n)
 cut (negsuc n) = negℤ (pos (atMost (suc n)))
+
+-- ---- what is read at a place
+-- digits, behind others that are n
+pub record DigitsRead (s : List ℕ) (at n : ℕ) (r : Digits) : Type 0 where
+  pub stop : r .end ≡ at + run isDigit (drop at s)
+  pub within : r .end ≤ length s
+  pub all : r .number ≡ atMost (numberFrom n (slice at (r .end) s))
+  pub small : r .number ≤ most
+
+-- a length, or none
+pub record LengthRead (s : List ℕ) (at : ℕ) (r : Length) : Type 0 where
+  pub stop : r .end ≡ at + lengthWidth (drop at s)
+  pub within : r .end ≤ length s
+  pub value : lengthThere (drop at s) ≡ true → r .thousandths ≡ cut (valueOf (drop at s))
+
+-- a colon and a length, or not both
+pub record EdgeRead (s : List ℕ) (at : ℕ) (r : Length) : Type 0 where
+  pub stop : r .end ≡ at + edgeWidth (drop at s)
+  pub within : r .end ≤ length s
+  pub value : (r .end ≡ at → ⊥) → r .thousandths ≡ cut (valueOf (drop (at + 1) s))

@@ -2,13 +2,13 @@
 // its bytes.
 use records::Layout;
 ghost use mathlib.Core.Path.{_≡_};
-ghost use mathlib.Core.Bool.{true, _&&_};
+ghost use mathlib.Core.Bool.{_&&_};
 ghost use Prim.Native.Nat.{_+_, _-_, _≤_};
 ghost use lib.Dec.{eqb, ltb};
 ghost use lib.ListN.{length, getD, drop};
-ghost use Rattle.digits.specs.Digits.{most, atMost};
-ghost use Rattle.newick_text.specs.Length.{signSize, pointAt, magnitudeOf, lengthThere, valueOf};
-ghost use Rattle.newick_words.specs.Words.{nameWidth, edgeWidth, cut};
+ghost use Rattle.digits.specs.Digits.{most};
+ghost use Rattle.newick_text.specs.Length.{signSize};
+ghost use Rattle.newick_words.specs.Words.{nameWidth, DigitsRead, LengthRead, EdgeRead};
 
 // The most bytes of a text, and the bytes of a buffer for one.
 pub const MAX_TEXT: usize = 65_536;
@@ -39,14 +39,6 @@ fn minus_size(text: &[u8], at: usize) -> usize
     0
 }
 
-// Where the digits behind a minus, or behind none, end.
-fn point_of(text: &[u8], at: usize) -> usize
-    requires { ⌜ at ≤ length (now text) ⌝ }
-    ensures { λ r. ⌜ (r ≡ at + pointAt (drop at (now (text .entry)))) × (r ≤ length (now (text .entry))) ⌝ }
-{
-    digits::digits_end(text, at + minus_size(text, at))
-}
-
 // Whether a zero begins digits and is not the only one.
 fn needless_zero(text: &[u8], whole: usize, point: usize) -> bool
     requires { ⌜ whole ≤ point ⌝ }
@@ -58,65 +50,94 @@ fn needless_zero(text: &[u8], whole: usize, point: usize) -> bool
     digits::byte_at(text, whole) == b'0'
 }
 
-// The number of all digits of a length, cut.
-fn magnitude(text: &[u8], at: usize) -> u64
-    requires { ⌜ (at ≤ length (now text)) × (at + (pointAt (drop at (now text)) + 4) ≤ length (now text)) ⌝ }
-    ensures { λ r. ⌜ (r ≡ atMost (magnitudeOf (drop at (now (text .entry))))) × (r ≤ most) ⌝ }
-{
-    let whole = at + minus_size(text, at);
-    let point = digits::digits_end(text, whole);
-    let number = digits::number(text, 0, whole, point);
-    digits::number(text, number, point + 1, point + 4)
+// Digits that were read: where they end, and the number that they are behind others, cut.
+struct Digits {
+    end: usize,
+    number: u64,
 }
 
-// Whether a length stands at a place, with no digit behind it.
-fn length_there(text: &[u8], at: usize) -> bool
+// The digits that begin at a place, behind others that are `number`.
+fn digits_at(text: &[u8], at: usize, number: u64) -> Digits
+    requires { ⌜ (at ≤ length (now text)) × (number ≤ most) ⌝ }
+    ensures { λ r. ⌜ DigitsRead (now (text .entry)) at number r ⌝ }
+{
+    let mut end = at;
+    let mut all = number;
+    while end < text.len() {
+        let byte = text[end];
+        if !digits::is_digit(byte) {
+            return Digits { end, number: all };
+        }
+        all = digits::longer(all, byte);
+        end += 1;
+    }
+    Digits { end, number: all }
+}
+
+// A length that was read: where it ends, which is the place itself where none stands there, and its thousandths, cut.
+pub struct Length {
+    pub end: usize,
+    pub thousandths: i64,
+}
+
+fn no_length(at: usize) -> Length
+    ensures { λ r. ⌜ r .end ≡ at ⌝ }
+{
+    Length {
+        end: at,
+        thousandths: 0,
+    }
+}
+
+// The length at a place, with no digit behind it.
+fn length_at(text: &[u8], at: usize) -> Length
     requires { ⌜ at ≤ length (now text) ⌝ }
-    ensures { λ r. ⌜ r ≡ lengthThere (drop at (now (text .entry))) ⌝ }
+    ensures { λ r. ⌜ LengthRead (now (text .entry)) at r ⌝ }
 {
     let whole = at + minus_size(text, at);
-    let point = digits::digits_end(text, whole);
+    let before = digits_at(text, whole, 0);
+    let point = before.end;
     if point == whole {
-        return false;
+        return no_length(at);
     }
     if needless_zero(text, whole, point) {
-        return false;
+        return no_length(at);
     }
     if digits::byte_at(text, point) != b'.' {
-        return false;
+        return no_length(at);
     }
-    let end = digits::digits_end(text, point + 1);
+    let places = digits_at(text, point + 1, before.number);
+    let end = places.end;
     if end != point + 4 {
-        return false;
+        return no_length(at);
     }
+    let all = places.number;
     if whole == at {
-        return true;
+        return Length {
+            end,
+            thousandths: all as i64,
+        };
     }
-    magnitude(text, at) != 0
+    if all == 0 {
+        return no_length(at);
+    }
+    Length {
+        end,
+        thousandths: 0 - all as i64,
+    }
 }
 
-// Where a colon and the length behind it end, that place where they do not stand there.
-pub fn edge_end(text: &[u8], at: usize) -> usize
+// The length behind the colon at a place; it ends at that place where the two do not stand there.
+pub fn edge_at(text: &[u8], at: usize) -> Length
     requires { ⌜ at ≤ length (now text) ⌝ }
-    ensures { λ r. ⌜ (r ≡ at + edgeWidth (drop at (now (text .entry)))) × (r ≤ length (now (text .entry))) ⌝ }
+    ensures { λ r. ⌜ EdgeRead (now (text .entry)) at r ⌝ }
 {
     if digits::byte_at(text, at) != b':' {
-        return at;
+        return no_length(at);
     }
-    if length_there(text, at + 1) {
-        return point_of(text, at + 1) + 4;
+    let found = length_at(text, at + 1);
+    if found.end == at + 1 {
+        return no_length(at);
     }
-    at
-}
-
-// The thousandths of the length at a place, cut.
-pub fn length_value(text: &[u8], at: usize) -> i64
-    requires { ⌜ (at ≤ length (now text)) × (lengthThere (drop at (now text)) ≡ true) ⌝ }
-    ensures { λ r. ⌜ r ≡ cut (valueOf (drop at (now (text .entry)))) ⌝ }
-{
-    let all = magnitude(text, at) as i64;
-    if digits::byte_at(text, at) == b'-' {
-        return 0 - all;
-    }
-    all
+    found
 }
