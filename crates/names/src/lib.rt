@@ -19,7 +19,7 @@ ghost use Rattle.names.specs.Name.{isLetter, isNameByte, isName, keys, k
 ghost use Rattle.names.specs.Record.{nameOf, nameOut, namesOut, placeOf, NamesAnswer};
 
 // The keys that names may have.
-const KEYS: usize = 256;
+pub const KEYS: usize = 256;
 
 // The answer to a names record that is lent by itself, and how many names it has; 0 where it is refused.
 pub struct Named {
@@ -106,7 +106,7 @@ pub fn strain_of(s: &[u8], from: usize, n: usize, name: &[u8]) -> usize
 }
 
 // A number below 256 for bytes, the same for the same bytes.
-fn key_of(bytes: &[u8]) -> usize
+pub fn key_of(bytes: &[u8]) -> usize
     ensures { λ r. ⌜ (r ≡ keyFrom 0 (now (bytes .entry))) × (r < keys) ⌝ }
 {
     let mut key = 0;
