@@ -14,14 +14,14 @@ use mir.Val.{toZ, ofZ}
 use Rattle.exact.proofs.Sign.{back}
 use Rattle.digits.proofs.Reading.{inside}
 use Rattle.names.specs.Name.{isName}
-use Rattle.newick_text.specs.Length.{lengthThere, valueOf}
+use Rattle.newick_text.specs.Length.{lengthThere, lengthSize, valueOf}
 use Rattle.newick_text.specs.Tree.{Tree, leaf, node, Row, none, some, textThen, rowThen, Formed, RowFormed}
 use Rattle.newick_text.specs.Table.{after, rowAfter, numberOf, filled, rowFilled}
 use Rattle.newick_text.proofs.Lengths.{length-then}
 use Rattle.newick_text.proofs.Unique.{colon-ends, name-told, no-bracket, row-stops}
-use Rattle.newick_words.specs.Words.{nameWidth, edgeWidth, cut}
+use Rattle.newick_words.specs.Words.{nameWidth, cut}
 use Rattle.newick_words.proofs.Words.{cut-small}
-use Rattle.newick_words.proofs.Edges.{byte-is, first-is, rest-is, name-known, edge-known}
+use Rattle.newick_words.proofs.Edges.{byte-is, first-is, rest-is, name-known}
 use Rattle.newick_fill.specs.declared.Step.{Step}
 use Rattle.newick_fill.specs.Fill.{byteOf, parentEntry, lengthEntry, ahead, Vertex, Children, Took, TookAll}
 
@@ -159,10 +159,10 @@ module _ (find : List ℕ → ℕ) (s : List ℕ) (a k : ℕ) (p q : List ℕ) (
     value-is c = ap valueOf (word-there c) ∙ length-then (c .word) (rowThen (c .others) 44 (c .rest)) (c .formed .1) (row-stops (c .others) (c .rest)) .value
 
     -- its length ends at j
-    module _ (j : ℕ) (is : j ≡ r .end + edgeWidth (drop (r .end) s)) where
+    module _ (j : ℕ) (is : j ≡ r .end + 1 + lengthSize (drop (r .end + 1) s)) where
       edge-is : (c : Children s a) → j ≡ r .end + (1 + length (c .word))
       unfolding RowFormed
-      edge-is c = edge-known s (r .end) j is (c .word) (rowThen (c .others) 44 (c .rest)) (c .formed .1) (row-stops (c .others) (c .rest)) (colon c)
+      edge-is c = omega (arith, is, ap lengthSize (word-there c), length-then (c .word) (rowThen (c .others) 44 (c .rest)) (c .formed .1) (row-stops (c .others) (c .rest)) .size)
 
       rest-there : (c : Children s a) → drop j s ≡ rowThen (c .others) 44 (c .rest)
       rest-there c =

@@ -1,10 +1,14 @@
 // The tables of a text that is known to be of the form: an inner vertex gets its number as its bracket closes, and the entries of its
 // children are set on the way back. A call for each vertex: so a text comes here only once its leaves are known to be few.
+use matrix::Matrix;
+use names::KEYS;
+use records::Layout;
 ghost use mathlib.Core.Path.{_≡_};
 ghost use Prim.Native.Nat.{_+_, _≤_};
 ghost use lib.ListN.{length, set};
-ghost use Rattle.records.specs.Names.{nameStart};
+ghost use Rattle.records.specs.Form.{headSize};
 ghost use Rattle.names.specs.Record.{placeOf};
+ghost use Rattle.name_keys.specs.Keyed.{Keyed};
 ghost use Rattle.newick_fill.specs.Fill.{byteOf, ahead, Vertex, Children, Took, TookAll};
 
 // What is known behind a vertex: where it ends, its number, and the next number for a bracket.
@@ -49,51 +53,74 @@ fn put(parents: &mut [u8], numerators: &mut [i64], number: usize, parent: usize,
     put_numerator(numerators, number, numerator);
 }
 
-// The vertex at a place, where `next` is the next number for a bracket and the names are the `n` from `from` on.
-pub fn vertex(
+// The vertex at a place, where `next` is the next number for a bracket; the tables of the `n` names find the strain of one.
+fn vertex(
     text: &[u8],
     at: usize,
     next: usize,
     names: &[u8],
-    from: usize,
     n: usize,
+    firsts: &[u8; KEYS],
+    starts: &[usize; Matrix::MAX_STRAINS],
     parents: &mut [u8],
     numerators: &mut [i64],
 ) -> Step
-    requires { ⌜ (at ≤ length (now text)) × (next ≤ at + ahead) × (nameStart (now names) from n ≤ length (now names)) ⌝ }
+    requires { ⌜ (at ≤ length (now text)) × (next ≤ at + ahead) × Keyed (now names) headSize n (now firsts) (now starts) ⌝ }
     requires { ⌜ Vertex (now text) at ⌝ }
-    ensures { λ r. ⌜ ((v : Vertex (now (text .entry)) at) → Took (placeOf (now (names .entry)) from n) (now (text .entry)) at next (now (parents .entry)) (now (parents .exit)) (now (numerators .entry)) (now (numerators .exit)) r v) ⌝ }
+    ensures { λ r. ⌜ ((v : Vertex (now (text .entry)) at) → Took (placeOf (now (names .entry)) headSize n) (now (text .entry)) at next (now (parents .entry)) (now (parents .exit)) (now (numerators .entry)) (now (numerators .exit)) r v) ⌝ }
 {
     if digits::byte_at(text, at) == b'(' {
-        return children(text, at + 1, next, names, from, n, parents, numerators);
+        return children(
+            text,
+            at + 1,
+            next,
+            names,
+            n,
+            firsts,
+            starts,
+            parents,
+            numerators,
+        );
     }
     let end = newick_words::name_end(text, at);
+    let name = &text[at..end];
     Step {
         end,
-        number: names::strain_of(names, from, n, &text[at..end]),
+        number: name_keys::find_strain(names, Layout::HEAD, n, firsts, starts, name),
         next,
     }
 }
 
 // The children of a bracket from a place on, up to and with the bracket that closes.
-fn children(
+pub fn children(
     text: &[u8],
     at: usize,
     next: usize,
     names: &[u8],
-    from: usize,
     n: usize,
+    firsts: &[u8; KEYS],
+    starts: &[usize; Matrix::MAX_STRAINS],
     parents: &mut [u8],
     numerators: &mut [i64],
 ) -> Step
-    requires { ⌜ (at ≤ length (now text)) × (next ≤ at + ahead) × (nameStart (now names) from n ≤ length (now names)) ⌝ }
+    requires { ⌜ (at ≤ length (now text)) × (next ≤ at + ahead) × Keyed (now names) headSize n (now firsts) (now starts) ⌝ }
     requires { ⌜ Children (now text) at ⌝ }
-    ensures { λ r. ⌜ ((v : Children (now (text .entry)) at) → TookAll (placeOf (now (names .entry)) from n) (now (text .entry)) at next (now (parents .entry)) (now (parents .exit)) (now (numerators .entry)) (now (numerators .exit)) r v) ⌝ }
+    ensures { λ r. ⌜ ((v : Children (now (text .entry)) at) → TookAll (placeOf (now (names .entry)) headSize n) (now (text .entry)) at next (now (parents .entry)) (now (parents .exit)) (now (numerators .entry)) (now (numerators .exit)) r v) ⌝ }
 {
-    let child = vertex(text, at, next, names, from, n, parents, numerators);
-    let edge = newick_words::edge_at(text, child.end);
-    let numerator = edge.thousandths;
-    let end = edge.end;
+    let child = vertex(
+        text,
+        at,
+        next,
+        names,
+        n,
+        firsts,
+        starts,
+        parents,
+        numerators,
+    );
+    let length = newick_words::length_at(text, child.end + 1);
+    let numerator = length.thousandths;
+    let end = length.end;
     if digits::byte_at(text, end) == b')' {
         put(parents, numerators, child.number, child.next, numerator);
         return Step {
@@ -107,8 +134,9 @@ fn children(
         end + 1,
         child.next,
         names,
-        from,
         n,
+        firsts,
+        starts,
         parents,
         numerators,
     );

@@ -38,7 +38,7 @@ fn form(text: &[u8], at: usize, room: usize) -> End
         let End::At(end) = child else {
             return End::Nowhere;
         };
-        let edge = newick_words::edge_at(text, end).end;
+        let edge = newick_words::edge_end(text, end);
         if edge == end {
             return End::Nowhere;
         }

@@ -8,7 +8,7 @@ use borrow.Author.Tests.{eqb-true, eqb-false, ltb-false}
 use lib.Dec.{eqb, ltb}
 use lib.IntN.{ℤ, pos}
 use lib.ListN.{length, getD, take}
-use Rattle.exact.specs.Table.{table}
+use Rattle.exact.specs.Table.{table, padded}
 use Rattle.exact.proofs.Fill.{length-table}
 use Rattle.verdict.specs.Answer.{Answer, pass, fault, answerOf, test, _orElse_}
 use Rattle.verdict.specs.Table.{some, first}
@@ -26,20 +26,25 @@ use Rattle.tree_theory.specs.Tests.{treeTests}
 use Rattle.lengths.specs.Tests.{lengthsTests}
 use Rattle.records.specs.Names.{nameStart}
 use Rattle.records.specs.Form.{headSize}
+use Rattle.records.proofs.Decoding.{padded-before}
 use Rattle.names.specs.Record.{placeOf, recordCount, namesTests, NamesAnswer}
 use Rattle.names.specs.declared.Named.{Named}
 use Rattle.names.proofs.Laws.{lent-within}
-use Rattle.newick_text.specs.Tree.{Row, node, textThen, Text, maxOpen}
-use Rattle.newick_text.specs.Table.{filled}
+use Rattle.name_keys.specs.Keyed.{Firsts, Keyed}
+use Rattle.newick_text.specs.Tree.{Row, none, node, textThen, Formed, Text, maxOpen}
+use Rattle.newick_text.specs.Tree as tree
+use Rattle.newick_text.specs.Table.{numberOf, filled}
 use Rattle.newick_text.specs.Tests.{thousand, edgesIn, parentsIn, numeratorsIn, namesWrong, rowTests}
 use Rattle.newick_text.specs.Count.{occurs}
 use Rattle.newick_text.proofs.Unique.{semicolon-ends, one-row}
-use Rattle.newick_text.proofs.Counting.{commas, openings, row-number}
+use Rattle.newick_text.proofs.Counting.{commas}
 use Rattle.newick_text.proofs.Using.{names-right, names-many, names-missing}
 use Rattle.newick_text.proofs.Filling.{filled-length}
 use Rattle.newick_form.specs.Form.{Found, TextRead}
 use Rattle.newick_fill.specs.declared.Step.{Step}
-use Rattle.newick_fill.specs.Fill.{parentEntry, lengthEntry, Vertex, Took}
+use Rattle.newick_fill.specs.Fill.{parentEntry, lengthEntry, Vertex, Children, TookAll}
+use Rattle.newick_fill.proofs.Steps.{bracket-kids, took-bracket}
+use Rattle.newick_words.proofs.Edges.{first-is}
 use Rattle.newick_survey.specs.declared.Tables.{Tables}
 use Rattle.newick_survey.specs.declared.Survey.{Survey}
 use Rattle.newick_survey.specs.Text.{findIn, headTests, tableTests, Entered, Held, TextSurvey, formless, formed, by-names, by-form, by-row, Surveyed}
@@ -50,15 +55,35 @@ pub root-stands : (s : List ℕ) (r : Row) → Text s r → Vertex s 0
 unfolding textThen
 root-stands s r x = record { tree = node r; room = maxOpen; rest = 59 ∷ []; formed = x .formed; stop = semicolon-ends; text = x .text }
 
+-- it opens a bracket, and its children stand behind that
+pub root-opens : (s : List ℕ) (r : Row) → Text s r → getD s 0 0 ≡ 40
+unfolding textThen Formed
+root-opens s none x = absurd (x .formed .1)
+root-opens s (tree.some t w o) x = first-is s 0 40 _ (x .text)
+
+pub root-kids : (s : List ℕ) (r : Row) (x : Text s r) → Children s 1
+root-kids s r x = bracket-kids (λ _. 0) s 0 0 [] [] [] [] (root-opens s r x) (root-stands s r x)
+
 pub entered : (s : List ℕ) (N : ℕ) (r : Row) (x : Text s r) {find : List ℕ → ℕ} {p q : List ℕ} {y z : List ℤ} {o : Step} → p ≡ table maxEdges (λ _. 0) → y ≡ table maxEdges (λ _. pos 0)
-    → ((v : Vertex s 0) → Took find s 0 N p q y z o v) → Entered find N r (record { parents = q; numerators = z })
-unfolding root-stands
+    → ((c : Children s 1) → TookAll find s 1 N p q y z o c) → Entered find N r (record { edges = o .number; parents = q; numerators = z })
+unfolding root-stands numberOf
 entered s N r x {find} {p} {q} {y} {z} {o} ep ey t =
-    let k = t (root-stands s r x) in
+    let k = took-bracket find s 0 N p q y z (root-opens s r x) o t (root-stands s r x) in
     record {
+      edges = k .number;
       parents = k .parents ∙ ap (filled find parentEntry (node r) N) ep;
       numerators = k .numerators ∙ ap (filled find lengthEntry (node r) N) ey;
     }
+
+-- ---- the names by their keys
+pub names-keyed : (s : List ℕ) (n : ℕ) (firsts starts : List ℕ) → n ≤ maxStrains → nameStart s headSize n ≤ length s → Firsts s headSize n firsts → starts ≡ padded 0 maxStrains n (nameStart s headSize)
+    → Keyed s headSize n firsts starts
+names-keyed s n firsts starts few within first e = record {
+  few = few;
+  within = within;
+  first = first;
+  begins = λ i h. ap (λ (l : List ℕ). getD l i 0) e ∙ padded-before 0 maxStrains n (nameStart s headSize) i h;
+}
 
 -- ---- a text beside names
 module _ (find : List ℕ → ℕ) (N : ℕ) (text : List ℕ) (v : Survey) where
@@ -76,8 +101,8 @@ module _ (find : List ℕ → ℕ) (N : ℕ) (text : List ℕ) (v : Survey) wher
         formed r (f .text) (record { answer = ap answerOf e ∙ sym t; held = λ ok. absurd (refuses 29 Nowhere (sym t ∙ ok)) })
 
     -- more or fewer leaves than names
-    pub survey-many : (n : ℕ) → n ≡ occurs 44 text → (n + 1 ≡ N → ⊥) → v .verdict ≡ Refused (record { reason = Names; place = Nowhere }) → TextSurvey find N text v
-    survey-many n e d = wrong (names-many find N r (λ h. d (omega (arith, e, h, commas text r (f .text)))))
+    pub survey-many : (occurs 44 text + 1 ≡ N → ⊥) → v .verdict ≡ Refused (record { reason = Names; place = Nowhere }) → TextSurvey find N text v
+    survey-many d = wrong (names-many find N r (λ h. d (omega (arith, h, commas text r (f .text)))))
 
     module _ (few : N ≤ maxStrains) (t : Tables) (entries : Entered find N r t) where
       -- a name that is not used
@@ -88,28 +113,24 @@ module _ (find : List ℕ → ℕ) (N : ℕ) (text : List ℕ) (v : Survey) wher
           wrong (names-missing find N r i (l .below) (entry-unused find N r i (l .below) few (sym (ap (λ (p : List ℕ). getD p i 0) (entries .parents)) ∙ eqb-true _ 0 (l .fault))))
 
       -- every name once: the tables are judged
-      module _ (three : strainsOut N ≡ false) (n : ℕ) (en : n ≡ occurs 44 text) (all : n + 1 ≡ N) (used : some N (λ i. eqb (getD (t .parents) i 0) 0) ≡ false)
-          (m : ℕ) (em : m ≡ occurs 40 text) where
+      module _ (three : strainsOut N ≡ false) (all : occurs 44 text + 1 ≡ N) (used : some N (λ i. eqb (getD (t .parents) i 0) 0) ≡ false) where
         right : namesWrong find N r ≡ false
-        right = names-right find N r (omega (arith, en, all, commas text r (f .text)))
+        right = names-right find N r (omega (arith, all, commas text r (f .text)))
             (λ i l. entry-used find N r i l few (λ z. eqb-false _ 0 (some-none N (λ j. eqb (getD (t .parents) j 0) 0) used i l) (ap (λ (p : List ℕ). getD p i 0) (entries .parents) ∙ z)))
 
-        edges-are : N + m - 1 ≡ edgesIn find N r
-        edges-are = omega (arith, em, openings text r (f .text), row-number r N)
-
-        pub survey-judged : answerOf (v .verdict) ≡ tableTests N (N + m - 1) (t .parents) (t .numerators) → v .strains ≡ N → v .edges ≡ N + m - 1 → v .parents ≡ t .parents → v .numerators ≡ t .numerators → TextSurvey find N text v
+        pub survey-judged : answerOf (v .verdict) ≡ tableTests N (t .edges) (t .parents) (t .numerators) → v .strains ≡ N → v .edges ≡ t .edges → v .parents ≡ t .parents → v .numerators ≡ t .numerators → TextSurvey find N text v
         survey-judged a es ee ep en = formed r (f .text) (record {
           answer = a
-              ∙ ap (λ (k : ℕ). tableTests N k (t .parents) (t .numerators)) edges-are
+              ∙ ap (λ (k : ℕ). tableTests N k (t .parents) (t .numerators)) (entries .edges)
               ∙ ap₂ (λ (p : List ℕ) (x : List ℤ). tableTests N (edgesIn find N r) p x) (entries .parents) (entries .numerators)
               ∙ tests-are find N r three right;
           held = λ ok. let k = passes-few find N r three ok in
               record {
                 strains = es;
-                edges = ee ∙ edges-are;
-                few = omega (arith, ee, edges-are, k);
-                parents = ap₂ (λ (j : ℕ) (p : List ℕ). take j p) (ee ∙ edges-are) (ep ∙ entries .parents) ∙ parents-are find N r k;
-                numerators = ap₂ (λ (j : ℕ) (x : List ℤ). take j x) (ee ∙ edges-are) (en ∙ entries .numerators) ∙ numerators-are find N r k (passes-lengths find N r ok);
+                edges = ee ∙ entries .edges;
+                few = omega (arith, ee, entries .edges, k);
+                parents = ap₂ (λ (j : ℕ) (p : List ℕ). take j p) (ee ∙ entries .edges) (ep ∙ entries .parents) ∙ parents-are find N r k;
+                numerators = ap₂ (λ (j : ℕ) (x : List ℤ). take j x) (ee ∙ entries .edges) (en ∙ entries .numerators) ∙ numerators-are find N r k (passes-lengths find N r ok);
               };
         })
 
@@ -122,6 +143,17 @@ entered-room find N r t e = (
 
 pub strains-few : (N : ℕ) → strainsOut N ≡ false → N ≤ maxStrains
 strains-few N h = ltb-false maxStrains N (or-none (ltb N minStrains) (ltb maxStrains N) h .1)
+
+pub strains-some : (N : ℕ) → strainsOut N ≡ false → minStrains ≤ N
+strains-some N h = ltb-false N minStrains (or-none (ltb N minStrains) (ltb maxStrains N) h .0)
+
+-- one leaf more than commas, or not, by the test of the commas
+module _ (N : ℕ) (h : strainsOut N ≡ false) (text : List ℕ) where
+  pub leaves-all : eqb (occurs 44 text) (N - 1) ≡ true → occurs 44 text + 1 ≡ N
+  leaves-all e = omega (arith, eqb-true (occurs 44 text) (N - 1) e, strains-some N h)
+
+  pub leaves-out : eqb (occurs 44 text) (N - 1) ≡ false → occurs 44 text + 1 ≡ N → ⊥
+  leaves-out e q = eqb-false (occurs 44 text) (N - 1) e (omega (arith, q))
 
 -- ---- names first
 -- what follows a refusal does not matter

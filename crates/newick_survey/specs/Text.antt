@@ -34,8 +34,9 @@ headTests names = namesTests names orElse test 6 (strainsOut (recordCount names)
 abbrev pub tableTests : ℕ → ℕ → List ℕ → List ℤ → Answer
 tableTests N K p x = cond (ltb maxEdges K) (test 8 true) (treeTests N (take K p) orElse lengthsTests K thousand (take K x))
 
--- the tables of a row
+-- the tables of a row, and how many edges it has
 pub record Entered (find : List ℕ → ℕ) (N : ℕ) (r : Row) (t : Tables) : Type 0 where
+  pub edges : t .edges ≡ edgesIn find N r
   pub parents : t .parents ≡ filled find parentEntry (node r) N (table maxEdges (λ _. 0))
   pub numerators : t .numerators ≡ filled find lengthEntry (node r) N (table maxEdges (λ _. pos 0))
 

@@ -35,13 +35,14 @@ fn strains_out(n: usize) -> bool
     n > Matrix::MAX_STRAINS
 }
 
-// The parents and the numerators of a text, each in a table for as many edges as a tree may have.
+// How many edges a text's tree has, and its parents and numerators, each in a table for as many edges as a tree may have.
 pub struct Tables {
+    pub edges: usize,
     pub parents: [u8; Tree::MAX_EDGES],
     pub numerators: [i64; Tree::MAX_EDGES],
 }
 
-// The tables of a text of the form, where the `n` names of a record are known to stand in it.
+// The tables of a text of the form, where the root's number is how many edges there are and the `n` names of a record are known to stand in it.
 fn fill_tables(names: &[u8], n: usize, text: &[u8]) -> Tables
     requires { ⌜ (n ≤ maxStrains) × (nameStart (now names) headSize n ≤ length (now names)) ⌝ }
     requires { ⌜ Found (now text) ⌝ }
@@ -49,17 +50,21 @@ fn fill_tables(names: &[u8], n: usize, text: &[u8]) -> Tables
 {
     let mut parents = tree::no_parents();
     let mut numerators = tree::edge_zeros();
-    newick_fill::vertex(
+    let firsts = name_keys::first_strains(names, Layout::HEAD, n);
+    let starts = names::name_starts(names, Layout::HEAD, n);
+    let root = newick_fill::children(
         text,
-        0,
+        1,
         n,
         names,
-        Layout::HEAD,
         n,
+        &firsts,
+        &starts,
         &mut parents,
         &mut numerators,
     );
     Tables {
+        edges: root.number,
         parents,
         numerators,
     }
@@ -81,10 +86,11 @@ fn unused(parents: &[u8], n: usize) -> bool
 }
 
 // 8, 10, 13: the tree and the lengths as they are asked anywhere.
-fn judged(n: usize, edges: usize, found: Tables) -> Verdict
+fn judged(n: usize, found: Tables) -> Verdict
     requires { ⌜ (n ≤ maxStrains) × (length (found .parents) ≡ maxEdges) × (length (found .numerators) ≡ maxEdges) ⌝ }
-    ensures { λ r. ⌜ answerOf r ≡ tableTests n edges (found .parents) (found .numerators) ⌝ }
+    ensures { λ r. ⌜ answerOf r ≡ tableTests n (found .edges) (found .parents) (found .numerators) ⌝ }
 {
+    let edges = found.edges;
     if edges > Tree::MAX_EDGES {
         return Verdict::Refused(Refusal {
             reason: Reason::Vertices,
@@ -131,7 +137,7 @@ fn of_text(names: &[u8], n: usize, text: &[u8]) -> Survey
             place: Place::Nowhere,
         });
     }
-    if newick_form::count_byte(text, b',') + 1 != n {
+    if !newick_form::count_is(text, b',', n - 1) {
         return refused(Refusal {
             reason: Reason::Names,
             place: Place::Nowhere,
@@ -146,11 +152,10 @@ fn of_text(names: &[u8], n: usize, text: &[u8]) -> Survey
             place: Place::Nowhere,
         });
     }
-    let edges = n + newick_form::count_byte(text, b'(') - 1;
     Survey {
-        verdict: judged(n, edges, found),
+        verdict: judged(n, found),
         strains: n,
-        edges,
+        edges: found.edges,
         parents,
         numerators,
     }

@@ -16,35 +16,35 @@ use Rattle.newick_words.specs.Words.{DigitsRead}
 abbrev stopOf : List ℕ → ℕ → ℕ
 stopOf s at = at + run isDigit (drop at s)
 
-pub record Gathered (s : List ℕ) (at n end all : ℕ) : Type 0 where
+pub record Gathered (s : List ℕ) (at end all : ℕ) : Type 0 where
   pub gone : RunAt isDigit s at end
   pub small : all ≤ most
-  pub left : atMost (numberFrom all (slice end (stopOf s at) s)) ≡ atMost (numberFrom n (slice at (stopOf s at) s))
+  pub left : atMost (numberFrom all (slice end (stopOf s at) s)) ≡ atMost (numberFrom 0 (slice at (stopOf s at) s))
 
-module _ (s : List ℕ) (at n : ℕ) (h : at ≤ length s) where
+module _ (s : List ℕ) (at : ℕ) (h : at ≤ length s) where
   stop-within : stopOf s at ≤ length s
   stop-within = omega (arith, h, run-within isDigit (drop at s), length-drop at s)
 
-  pub gathered-none : n ≤ most → Gathered s at n at n
-  gathered-none b = record { gone = run-start isDigit s at h; small = b; left = refl }
+  pub gathered-none : Gathered s at at 0
+  gathered-none = record { gone = run-start isDigit s at h; small = omega arith; left = refl }
 
-  module _ (end all : ℕ) (g : Gathered s at n end all) where
-    pub gathered-more : end < length s → isDigit (getD s end 0) ≡ true → (next : ℕ) → next ≡ atMost (all * 10 + digitOf (getD s end 0)) → next ≤ most → Gathered s at n (end + 1) next
+  module _ (end all : ℕ) (g : Gathered s at end all) where
+    pub gathered-more : end < length s → isDigit (getD s end 0) ≡ true → (next : ℕ) → next ≡ atMost (all * 10 + digitOf (getD s end 0)) → next ≤ most → Gathered s at (end + 1) next
     gathered-more l e next is b =
         let r = run-more isDigit s at end l e (g .gone) in
-        record { gone = r; small = b; left = number-turn s n at (stopOf s at) stop-within end all next (omega (arith, r .rest)) is (g .left) }
+        record { gone = r; small = b; left = number-turn s 0 at (stopOf s at) stop-within end all next (omega (arith, r .rest)) is (g .left) }
 
     -- the digits end here
-    ended : (end ≡ stopOf s at) × (end ≤ length s) → DigitsRead s at n (record { end = end; number = all })
+    ended : (end ≡ stopOf s at) × (end ≤ length s) → DigitsRead s at (record { end = end; number = all })
     ended w = record {
       stop = w .0;
       within = w .1;
-      all = number-end s n at (stopOf s at) stop-within end all (omega (arith, w .0)) (omega (arith, w .0)) (g .small) (g .left) ∙ ap (λ (k : ℕ). atMost (numberFrom n (slice at k s))) (sym (w .0));
+      all = number-end s 0 at (stopOf s at) stop-within end all (omega (arith, w .0)) (omega (arith, w .0)) (g .small) (g .left) ∙ ap (λ (k : ℕ). atMost (numberFrom 0 (slice at k s))) (sym (w .0));
       small = g .small;
     }
 
-    pub gathered-stop : end < length s → isDigit (getD s end 0) ≡ false → DigitsRead s at n (record { end = end; number = all })
+    pub gathered-stop : end < length s → isDigit (getD s end 0) ≡ false → DigitsRead s at (record { end = end; number = all })
     gathered-stop l e = ended (run-stop isDigit s at end l e (g .gone))
 
-    pub gathered-end : length s ≤ end → DigitsRead s at n (record { end = end; number = all })
+    pub gathered-end : length s ≤ end → DigitsRead s at (record { end = end; number = all })
     gathered-end l = ended (run-end isDigit s at end l (g .gone))

@@ -1,6 +1,6 @@
 -- What the tests of a length tell, by positions in the text; and that cutting leaves every length that is allowed as it is (`cut-in`).
 use mathlib.Core.Path.{_≡_, refl, sym, _∙_, ap, ap₂}
-use mathlib.Core.Bool.{Bool, true, false, not, _&&_, true≢false}
+use mathlib.Core.Bool.{Bool, true, false, not, _&&_}
 use mathlib.Core.List.{List}
 use Prim.Native.Nat.{ℕ, zero, suc, _+_, _-_, _≤_, _<_}
 use native.Mathlib.Decide.{decLt, ℕ-discrete}
@@ -17,8 +17,7 @@ use Rattle.digits.proofs.Reading.{inside, slice-is, cut-again, low-cut, high-cu
 use Rattle.names.specs.Name.{maxName, isNameByte}
 use Rattle.newick_text.specs.Length.{signSize, wholeSize, pointAt, magnitudeOf, lengthSize, lengthThere, valueOf}
 use Rattle.newick_text.proofs.Lengths.{sign-one}
-use Rattle.newick_words.specs.declared.Length.{Length}
-use Rattle.newick_words.specs.Words.{nameWidth, lengthWidth, edgeWidth, cut, LengthRead, EdgeRead}
+use Rattle.newick_words.specs.Words.{nameWidth, lengthWidth, edgeWidth, cut}
 
 -- ---- cutting a whole number
 pub cut-neg : (n : ℕ) → cut (negℤ (pos n)) ≡ negℤ (pos (atMost n))
@@ -171,25 +170,25 @@ module _ (s : List ℕ) (at : ℕ) (h : at ≤ length s) where
   unfolding nameWidth
   name-short end e b l = (sym (rw (le-leb (run isNameByte (drop at s)) maxName (omega arith)) (sym e)), b)
 
--- ---- a length, by what was read of it
+-- ---- a length, by where it ends
 -- how wide it is, by whether it stands there
 module _ (l : List ℕ) where
-  pub width-of : lengthThere l ≡ true → lengthWidth l ≡ pointAt l + 4
+  width-of : lengthThere l ≡ true → lengthWidth l ≡ pointAt l + 4
   unfolding lengthWidth lengthSize
   width-of t = rw t
 
-  pub width-none : lengthThere l ≡ false → lengthWidth l ≡ 0
+  width-none : lengthThere l ≡ false → lengthWidth l ≡ 0
   unfolding lengthWidth
   width-none t = rw t
 
-  pub width-there : (lengthWidth l ≡ 0 → ⊥) → lengthThere l ≡ true
+  width-there : (lengthWidth l ≡ 0 → ⊥) → lengthThere l ≡ true
   width-there n = go (lengthThere l) refl
     where
       go : (b : Bool) → lengthThere l ≡ b → lengthThere l ≡ true
       go true e = e
       go false e = absurd (n (width-none e))
 
-  pub width-gone : lengthWidth l ≡ 0 → lengthThere l ≡ false
+  width-gone : lengthWidth l ≡ 0 → lengthThere l ≡ false
   width-gone z = go (lengthThere l) refl
     where
       go : (b : Bool) → lengthThere l ≡ b → lengthThere l ≡ false
@@ -197,15 +196,11 @@ module _ (l : List ℕ) where
       go false e = e
 
 module _ (s : List ℕ) (at : ℕ) where
-  pub length-none : at ≤ length s → false ≡ lengthThere (drop at s) → (r : Length) → r .end ≡ at → LengthRead s at r
-  length-none h n r e = record {
-    stop = omega (arith, e, width-none (drop at s) (sym n));
-    within = omega (arith, e, h);
-    value = λ t. absurd (true≢false (sym t ∙ sym n));
-  }
+  pub length-none : at ≤ length s → false ≡ lengthThere (drop at s) → (at ≡ at + lengthWidth (drop at s)) × (at ≤ length s)
+  length-none h n = (omega (arith, width-none (drop at s) (sym n)), h)
 
-  pub length-some : true ≡ lengthThere (drop at s) → (point : ℕ) → point ≡ at + pointAt (drop at s) → (r : Length) → r .end ≡ point + 4 → r .end ≤ length s → r .thousandths ≡ cut (valueOf (drop at s)) → LengthRead s at r
-  length-some t point ep r e b v = record { stop = omega (arith, e, ep, width-of (drop at s) (sym t)); within = b; value = λ _. v }
+  pub length-some : true ≡ lengthThere (drop at s) → (point end : ℕ) → point ≡ at + pointAt (drop at s) → end ≡ point + 4 → end ≤ length s → (end ≡ at + lengthWidth (drop at s)) × (end ≤ length s)
+  length-some t point end ep e b = (omega (arith, e, ep, width-of (drop at s) (sym t)), b)
 
   -- a minus, by how far the digits are from the place
   pub signed : (whole : ℕ) → whole ≡ at + signSize (drop at s) → (whole ≡ at → ⊥) → getD s at 0 ≡ 45
@@ -218,29 +213,18 @@ module _ (s : List ℕ) (at : ℕ) where
   no-sign whole e z h = omega (arith, e, z, minus-yes s at h .0)
 
 -- ---- and a colon before it
-module _ (s : List ℕ) (at : ℕ) where
-  edge-wide : getD s at 0 ≡ 58 → lengthThere (drop (at + 1) s) ≡ true → edgeWidth (drop at s) ≡ 1 + (pointAt (drop (at + 1) s) + 4)
-  unfolding edgeWidth lengthSize
-  edge-wide b t = rw (drop-drop 1 at s, t, eq-eqb (getD (drop at s) 0 0) 58 (front-byte s at ∙ b))
-
-  edge-short : getD s at 0 ≡ 58 → lengthThere (drop (at + 1) s) ≡ false → edgeWidth (drop at s) ≡ 0
+module _ (s : List ℕ) (at : ℕ) (h : at ≤ length s) where
+  pub edge-bare : (getD s at 0 ≡ 58 → ⊥) → (at ≡ at + edgeWidth (drop at s)) × (at ≤ length s)
   unfolding edgeWidth
-  edge-short b t = rw (drop-drop 1 at s, t, eq-eqb (getD (drop at s) 0 0) 58 (front-byte s at ∙ b))
+  edge-bare b = (sym (rw (ne-eqb (getD (drop at s) 0 0) 58 (λ e. b (sym (front-byte s at) ∙ e))) (omega arith)), h)
 
-  edge-bare : (getD s at 0 ≡ 58 → ⊥) → edgeWidth (drop at s) ≡ 0
-  unfolding edgeWidth
-  edge-bare b = rw (ne-eqb (getD (drop at s) 0 0) 58 (λ e. b (sym (front-byte s at) ∙ e)))
+  module _ (b : getD s at 0 ≡ 58) (end : ℕ) (e : end ≡ at + 1 + lengthWidth (drop (at + 1) s)) where
+    pub edge-short : end ≡ at + 1 → (at ≡ at + edgeWidth (drop at s)) × (at ≤ length s)
+    unfolding edgeWidth
+    edge-short z = let t = width-gone (drop (at + 1) s) (omega (arith, z, e)) in
+        (sym (rw (drop-drop 1 at s, t, eq-eqb (getD (drop at s) 0 0) 58 (front-byte s at ∙ b)) (omega arith)), h)
 
-  none : at ≤ length s → edgeWidth (drop at s) ≡ 0 → (r : Length) → r .end ≡ at → EdgeRead s at r
-  none h z r e = record { stop = omega (arith, e, z); within = omega (arith, e, h); value = λ n. absurd (n e) }
-
-  pub colon-missing : at ≤ length s → (getD s at 0 ≡ 58 → ⊥) → (r : Length) → r .end ≡ at → EdgeRead s at r
-  colon-missing h b = none h (edge-bare b)
-
-  module _ (b : getD s at 0 ≡ 58) (q : Length) (f : LengthRead s (at + 1) q) where
-    pub length-missing : at ≤ length s → q .end ≡ at + 1 → (r : Length) → r .end ≡ at → EdgeRead s at r
-    length-missing h z = none h (edge-short b (width-gone (drop (at + 1) s) (omega (arith, z, f .stop))))
-
-    pub length-found : (q .end ≡ at + 1 → ⊥) → EdgeRead s at q
-    length-found n = let t = width-there (drop (at + 1) s) (λ z. n (omega (arith, z, f .stop))) in
-        record { stop = omega (arith, f .stop, width-of (drop (at + 1) s) t, edge-wide b t); within = f .within; value = λ _. f .value t }
+    pub edge-stands : (end ≡ at + 1 → ⊥) → end ≡ at + edgeWidth (drop at s)
+    unfolding edgeWidth lengthSize
+    edge-stands n = let t = width-there (drop (at + 1) s) (λ z. n (omega (arith, z, e))) in
+        sym (rw (drop-drop 1 at s, t, eq-eqb (getD (drop at s) 0 0) 58 (front-byte s at ∙ b)) (omega (arith, e, width-of (drop (at + 1) s) t)))

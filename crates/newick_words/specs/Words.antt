@@ -1,7 +1,7 @@
 -- The words at the front of a text (RULES, Trees in text), by how many bytes they have, 0 where none stands there; a length's
--- thousandths, cut where no length may go; and what reading digits, a length, and a length behind its colon gives.
+-- thousandths, cut where no length may go; and what reading digits and a length gives.
 use mathlib.Core.Path.{_≡_}
-use mathlib.Core.Bool.{true, cond, _&&_}
+use mathlib.Core.Bool.{cond, _&&_}
 use mathlib.Core.List.{List}
 use Prim.Native.Nat.{ℕ, suc, _+_, _≤_}
 use lib.Dec.{eqb, leb}
@@ -32,21 +32,15 @@ cut (pos n) = pos (atMost n)
 cut (negsuc n) = negℤ (pos (atMost (suc n)))
 
 -- ---- what is read at a place
--- digits, behind others that are n
-pub record DigitsRead (s : List ℕ) (at n : ℕ) (r : Digits) : Type 0 where
+-- digits
+pub record DigitsRead (s : List ℕ) (at : ℕ) (r : Digits) : Type 0 where
   pub stop : r .end ≡ at + run isDigit (drop at s)
   pub within : r .end ≤ length s
-  pub all : r .number ≡ atMost (numberFrom n (slice at (r .end) s))
+  pub all : r .number ≡ atMost (numberFrom 0 (slice at (r .end) s))
   pub small : r .number ≤ most
 
--- a length, or none
+-- a length
 pub record LengthRead (s : List ℕ) (at : ℕ) (r : Length) : Type 0 where
-  pub stop : r .end ≡ at + lengthWidth (drop at s)
+  pub stop : r .end ≡ at + lengthSize (drop at s)
   pub within : r .end ≤ length s
-  pub value : lengthThere (drop at s) ≡ true → r .thousandths ≡ cut (valueOf (drop at s))
-
--- a colon and a length, or not both
-pub record EdgeRead (s : List ℕ) (at : ℕ) (r : Length) : Type 0 where
-  pub stop : r .end ≡ at + edgeWidth (drop at s)
-  pub within : r .end ≤ length s
-  pub value : (r .end ≡ at → ⊥) → r .thousandths ≡ cut (valueOf (drop (at + 1) s))
+  pub value : r .thousandths ≡ cut (valueOf (drop at s))

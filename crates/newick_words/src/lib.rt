@@ -2,13 +2,12 @@
 // its bytes.
 use records::Layout;
 ghost use mathlib.Core.Path.{_≡_};
-ghost use mathlib.Core.Bool.{_&&_};
+ghost use mathlib.Core.Bool.{true, _&&_};
 ghost use Prim.Native.Nat.{_+_, _-_, _≤_};
 ghost use lib.Dec.{eqb, ltb};
 ghost use lib.ListN.{length, getD, drop};
-ghost use Rattle.digits.specs.Digits.{most};
-ghost use Rattle.newick_text.specs.Length.{signSize};
-ghost use Rattle.newick_words.specs.Words.{nameWidth, DigitsRead, LengthRead, EdgeRead};
+ghost use Rattle.newick_text.specs.Length.{signSize, lengthThere};
+ghost use Rattle.newick_words.specs.Words.{nameWidth, lengthWidth, edgeWidth, DigitsRead, LengthRead};
 
 // The most bytes of a text, and the bytes of a buffer for one.
 pub const MAX_TEXT: usize = 65_536;
@@ -50,94 +49,99 @@ fn needless_zero(text: &[u8], whole: usize, point: usize) -> bool
     digits::byte_at(text, whole) == b'0'
 }
 
-// Digits that were read: where they end, and the number that they are behind others, cut.
+// Where the length at a place ends, with no digit behind it; that place where none stands there.
+fn length_end(text: &[u8], at: usize) -> usize
+    requires { ⌜ at ≤ length (now text) ⌝ }
+    ensures { λ r. ⌜ (r ≡ at + lengthWidth (drop at (now (text .entry)))) × (r ≤ length (now (text .entry))) ⌝ }
+{
+    let whole = at + minus_size(text, at);
+    let point = digits::digits_end(text, whole);
+    if point == whole {
+        return at;
+    }
+    if needless_zero(text, whole, point) {
+        return at;
+    }
+    if digits::byte_at(text, point) != b'.' {
+        return at;
+    }
+    let end = digits::digits_end(text, point + 1);
+    if end != point + 4 {
+        return at;
+    }
+    if whole == at {
+        return end;
+    }
+    let number = digits::number(text, 0, whole, point);
+    if digits::number(text, number, point + 1, point + 4) == 0 {
+        return at;
+    }
+    end
+}
+
+// Where a colon and the length behind it end, that place where they do not stand there.
+pub fn edge_end(text: &[u8], at: usize) -> usize
+    requires { ⌜ at ≤ length (now text) ⌝ }
+    ensures { λ r. ⌜ (r ≡ at + edgeWidth (drop at (now (text .entry)))) × (r ≤ length (now (text .entry))) ⌝ }
+{
+    if digits::byte_at(text, at) != b':' {
+        return at;
+    }
+    let end = length_end(text, at + 1);
+    if end == at + 1 {
+        return at;
+    }
+    end
+}
+
+// Digits that were read: where they end, and the number that they are, cut.
 struct Digits {
     end: usize,
     number: u64,
 }
 
-// The digits that begin at a place, behind others that are `number`.
-fn digits_at(text: &[u8], at: usize, number: u64) -> Digits
-    requires { ⌜ (at ≤ length (now text)) × (number ≤ most) ⌝ }
-    ensures { λ r. ⌜ DigitsRead (now (text .entry)) at number r ⌝ }
+// The digits at a place.
+fn digits_at(text: &[u8], at: usize) -> Digits
+    requires { ⌜ at ≤ length (now text) ⌝ }
+    ensures { λ r. ⌜ DigitsRead (now (text .entry)) at r ⌝ }
 {
     let mut end = at;
-    let mut all = number;
+    let mut number = 0;
     while end < text.len() {
         let byte = text[end];
         if !digits::is_digit(byte) {
-            return Digits { end, number: all };
+            return Digits { end, number };
         }
-        all = digits::longer(all, byte);
+        number = digits::longer(number, byte);
         end += 1;
     }
-    Digits { end, number: all }
+    Digits { end, number }
 }
 
-// A length that was read: where it ends, which is the place itself where none stands there, and its thousandths, cut.
+// A length that was read: where it ends, and its thousandths, cut.
 pub struct Length {
     pub end: usize,
     pub thousandths: i64,
 }
 
-fn no_length(at: usize) -> Length
-    ensures { λ r. ⌜ r .end ≡ at ⌝ }
-{
-    Length {
-        end: at,
-        thousandths: 0,
-    }
-}
-
-// The length at a place, with no digit behind it.
-fn length_at(text: &[u8], at: usize) -> Length
-    requires { ⌜ at ≤ length (now text) ⌝ }
+// The length that is known to stand at a place.
+pub fn length_at(text: &[u8], at: usize) -> Length
+    requires { ⌜ (at ≤ length (now text)) × (lengthThere (drop at (now text)) ≡ true) ⌝ }
     ensures { λ r. ⌜ LengthRead (now (text .entry)) at r ⌝ }
 {
     let whole = at + minus_size(text, at);
-    let before = digits_at(text, whole, 0);
-    let point = before.end;
-    if point == whole {
-        return no_length(at);
-    }
-    if needless_zero(text, whole, point) {
-        return no_length(at);
-    }
-    if digits::byte_at(text, point) != b'.' {
-        return no_length(at);
-    }
-    let places = digits_at(text, point + 1, before.number);
-    let end = places.end;
-    if end != point + 4 {
-        return no_length(at);
-    }
-    let all = places.number;
+    let digits = digits_at(text, whole);
+    let point = digits.end;
+    let end = point + 4;
+    let all = digits::number(text, digits.number, point + 1, end) as i64;
     if whole == at {
         return Length {
             end,
-            thousandths: all as i64,
+            thousandths: all,
         };
-    }
-    if all == 0 {
-        return no_length(at);
     }
     Length {
         end,
-        thousandths: 0 - all as i64,
+        thousandths: 0 - all,
     }
-}
-
-// The length behind the colon at a place; it ends at that place where the two do not stand there.
-pub fn edge_at(text: &[u8], at: usize) -> Length
-    requires { ⌜ at ≤ length (now text) ⌝ }
-    ensures { λ r. ⌜ EdgeRead (now (text .entry)) at r ⌝ }
-{
-    if digits::byte_at(text, at) != b':' {
-        return no_length(at);
-    }
-    let found = length_at(text, at + 1);
-    if found.end == at + 1 {
-        return no_length(at);
-    }
-    found
 }

@@ -79,12 +79,13 @@ loop-less : tie.Need-loop-less Inv-loop μ-loop
 loop-less c = omega arith
 
 loop-again : tie.Need-loop-again Inv-loop μ-loop
-loop-again c = let k = c .before in let t = k .before .before .before in let l = t .before in let p = l .before .before .before in let a = p .args in
-    (at-next (a .s .now) (a .from) (a .n) (l .loop .inv .0) (t .loop-test .taken),
-    ⊎-elim
-    (λ w. subst (Firsts (a .s .now) (a .from) (l .loop .i + 1)) (sym (w .1)) (first-put (a .s .now) (a .from) (l .loop .i) (l .loop .firsts) (l .loop .inv .1) (k .key-of .result) (told k) (k .key-of .ensures .1) (w .0 .taken)))
-    (λ w. subst (Firsts (a .s .now) (a .from) (l .loop .i + 1)) (sym (w .1)) (first-kept (a .s .now) (a .from) (l .loop .i) (l .loop .firsts) (l .loop .inv .1) (k .key-of .result) (told k) (w .0 .left)))
-    (c .if1 .came))
+loop-again c = let k = c .before in let t = k .before .before .before in let l = t .before in let p = l .before .before .before in let a = p .args in (
+  at-next (a .s .now) (a .from) (a .n) (l .loop .inv .0) (t .loop-test .taken),
+  ⊎-elim
+      (λ w. subst (Firsts (a .s .now) (a .from) (l .loop .i + 1)) (sym (w .1)) (first-put (a .s .now) (a .from) (l .loop .i) (l .loop .firsts) (l .loop .inv .1) (k .key-of .result) (told k) (k .key-of .ensures .1) (w .0 .taken)))
+      (λ w. subst (Firsts (a .s .now) (a .from) (l .loop .i + 1)) (sym (w .1)) (first-kept (a .s .now) (a .from) (l .loop .i) (l .loop .firsts) (l .loop .inv .1) (k .key-of .result) (told k) (w .0 .left)))
+      (c .if1 .came),
+)
 
 returns : tie.Need-returns Inv-loop μ-loop
 returns c = let l = c .before in let p = l .before .before .before in let e : l .loop .i ≡ p .args .n = omega (arith, l .loop .inv .0 .few, c .loop-test .left) in

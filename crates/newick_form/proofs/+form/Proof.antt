@@ -13,7 +13,7 @@ use Rattle.newick_form.proofs.form.Reads as reads
 use Rattle.newick_form.proofs.form.Kinds as kinds
 use Rattle.newick_form.proofs.+form.Lts-form as lts
 use Rattle.digits.proofs.byte_at.Reads as byte-at
-use Rattle.newick_words.proofs.edge_at.Reads as edge-at
+use Rattle.newick_words.proofs.edge_end.Reads as edge-end
 use Rattle.newick_words.proofs.name_end.Reads as name-end
 use Rattle.newick_form.proofs.+form.{statement}
 use Rattle.newick_form.proofs.+form.Tie.{close}
@@ -28,7 +28,7 @@ abbrev asked : ℕ → In 1 kinds.ps
 asked t = and 1 kinds.ps (falls 1 kinds.ps _<_ μ-form t) reads.Pre
 
 abbrev asks : ℕ → lts.Claims
-asks t = (byte-at.Asked, byte-at.Learnt, name-end.Asked, name-end.Learnt, asked t, reads.Post, edge-at.Asked, edge-at.Learnt)
+asks t = (byte-at.Asked, byte-at.Learnt, name-end.Asked, name-end.Learnt, asked t, reads.Post, edge-end.Asked, edge-end.Learnt)
 
 abbrev Inv-loop : lts.InvT-loop
 Inv-loop text at room next₀ next = Rest text at room next
@@ -104,41 +104,41 @@ module _ (t : ℕ) where
     child : Stands (start .args .text .now) (here .loop .next) (start .args .room - 1) end
     child = subst (FormRead (start .args .text .now) (here .loop .next) (start .args .room - 1)) (c .before .child .given .1) (c .before .before .before .form .ensures)
 
-  edge-at-requires : lts.Need-edge-at-requires (asks t) (given t) reads.Post Inv-loop μ-loop
-  edge-at-requires c κs =
+  edge-end-requires : lts.Need-edge-end-requires (asks t) (given t) reads.Post Inv-loop μ-loop
+  edge-end-requires c κs =
       child c .within
 
   returns-5 : lts.Need-returns-5 (asks t) (given t) reads.Post Inv-loop μ-loop
   returns-5 c =
-      let k = c .before .before in edgeless (start k .args .text .now) (start k .args .at) (start k .args .room) (here k .loop .next) (here k .loop .inv) (end k) (child k) (c .before .edge-at .result .end) (c .before .edge-at .ensures .stop) (c .if4 .taken)
+      let k = c .before .before in edgeless (start k .args .text .now) (start k .args .at) (start k .args .room) (here k .loop .next) (here k .loop .inv) (end k) (child k) (c .before .edge-end .result) (c .before .edge-end .ensures .0) (c .if4 .taken)
 
   byte-at-requires-2 : lts.Need-byte-at-requires-2 (asks t) (given t) reads.Post Inv-loop μ-loop
   byte-at-requires-2 c κs =
       search needs
 
-  add-t16 : lts.Need-add-t16 (asks t) (given t) reads.Post Inv-loop μ-loop
-  add-t16 c =
-      let k = c .before .before .before .before in omega (arith, inside (start k .args .text .now) (c .before .before .before .edge-at .result .end) 40 (sym (c .before .byte-at2 .ensures) ∙ c .if5 .taken))
+  add-t15 : lts.Need-add-t15 (asks t) (given t) reads.Post Inv-loop μ-loop
+  add-t15 c =
+      let k = c .before .before .before .before in omega (arith, inside (start k .args .text .now) (c .before .before .before .edge-end .result) 40 (sym (c .before .byte-at2 .ensures) ∙ c .if5 .taken))
 
   returns-6 : lts.Need-returns-6 (asks t) (given t) reads.Post Inv-loop μ-loop
   returns-6 c =
-      let k = c .before .before .before .before in closes-at (start k .args .text .now) (start k .args .at) (start k .args .room) (here k .loop .next) (here k .loop .inv) (end k) (child k) (c .before .before .before .edge-at .result .end) (c .before .before .before .edge-at .ensures .stop) (c .before .before .if4 .left) (sym (c .before .byte-at2 .ensures) ∙ c .if5 .taken)
+      let k = c .before .before .before .before in closes-at (start k .args .text .now) (start k .args .at) (start k .args .room) (here k .loop .next) (here k .loop .inv) (end k) (child k) (c .before .before .before .edge-end .result) (c .before .before .before .edge-end .ensures .0) (c .before .before .if4 .left) (sym (c .before .byte-at2 .ensures) ∙ c .if5 .taken)
 
   returns-7 : lts.Need-returns-7 (asks t) (given t) reads.Post Inv-loop μ-loop
   returns-7 c =
-      let k = c .before .before .before .before .before in child-other (start k .args .text .now) (start k .args .at) (start k .args .room) (here k .loop .next) (here k .loop .inv) (end k) (child k) (c .before .before .before .before .edge-at .result .end) (c .before .before .before .before .edge-at .ensures .stop) (c .before .before .before .if4 .left) (λ e. c .before .if5 .left (c .before .before .byte-at2 .ensures ∙ e)) (λ e. c .if6 .taken (c .before .before .byte-at2 .ensures ∙ e))
+      let k = c .before .before .before .before .before in child-other (start k .args .text .now) (start k .args .at) (start k .args .room) (here k .loop .next) (here k .loop .inv) (end k) (child k) (c .before .before .before .before .edge-end .result) (c .before .before .before .before .edge-end .ensures .0) (c .before .before .before .if4 .left) (λ e. c .before .if5 .left (c .before .before .byte-at2 .ensures ∙ e)) (λ e. c .if6 .taken (c .before .before .byte-at2 .ensures ∙ e))
 
   add-next-2 : lts.Need-add-next-2 (asks t) (given t) reads.Post Inv-loop μ-loop
   add-next-2 c =
-      let k = c .before .before .before .before .before in omega (arith, inside (start k .args .text .now) (c .before .before .before .before .edge-at .result .end) 43 (sym (c .before .before .byte-at2 .ensures) ∙ c .if6 .left))
+      let k = c .before .before .before .before .before in omega (arith, inside (start k .args .text .now) (c .before .before .before .before .edge-end .result) 43 (sym (c .before .before .byte-at2 .ensures) ∙ c .if6 .left))
 
   loop-less : lts.Need-loop-less (asks t) (given t) reads.Post Inv-loop μ-loop
   loop-less c =
-      let k = c .before .before .before .before .before in omega (arith, child k .onward, c .before .before .before .before .edge-at .ensures .stop, inside (start k .args .text .now) (c .before .before .before .before .edge-at .result .end) 43 (sym (c .before .before .byte-at2 .ensures) ∙ c .if6 .left))
+      let k = c .before .before .before .before .before in omega (arith, child k .onward, c .before .before .before .before .edge-end .ensures .0, inside (start k .args .text .now) (c .before .before .before .before .edge-end .result) 43 (sym (c .before .before .byte-at2 .ensures) ∙ c .if6 .left))
 
   loop-again : lts.Need-loop-again (asks t) (given t) reads.Post Inv-loop μ-loop
   loop-again c =
-      let k = c .before .before .before .before .before in comma (start k .args .text .now) (start k .args .at) (start k .args .room) (here k .loop .next) (here k .loop .inv) (end k) (child k) (c .before .before .before .before .edge-at .result .end) (c .before .before .before .before .edge-at .ensures .stop) (c .before .before .before .if4 .left) (sym (c .before .before .byte-at2 .ensures) ∙ c .if6 .left)
+      let k = c .before .before .before .before .before in comma (start k .args .text .now) (start k .args .at) (start k .args .room) (here k .loop .next) (here k .loop .inv) (end k) (child k) (c .before .before .before .before .edge-end .result) (c .before .before .before .before .edge-end .ensures .0) (c .before .before .before .if4 .left) (sym (c .before .before .byte-at2 .ensures) ∙ c .if6 .left)
 
 pub +form-spec : {M : Type 1} → statement M
 +form-spec = close μ-form λ t. lts.spec (asks t) (given t) reads.Post Inv-loop μ-loop
@@ -154,10 +154,10 @@ pub +form-spec : {M : Type 1} → statement M
     (enum-known-child t)
     (enum-told t)
     (returns-4 t)
-    (edge-at-requires t)
+    (edge-end-requires t)
     (returns-5 t)
     (byte-at-requires-2 t)
-    (add-t16 t)
+    (add-t15 t)
     (returns-6 t)
     (returns-7 t)
     (add-next-2 t)

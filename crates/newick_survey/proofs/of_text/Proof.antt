@@ -12,7 +12,7 @@ use Rattle.names.specs.Record.{placeOf}
 use Rattle.newick_form.specs.Form.{Found, TextRead}
 use Rattle.newick_survey.specs.declared.Tables.{Tables}
 use Rattle.newick_survey.specs.Text.{Entered}
-use Rattle.newick_survey.proofs.Surveying.{survey-formless, survey-many, survey-unused, survey-judged, entered-room, strains-few}
+use Rattle.newick_survey.proofs.Surveying.{survey-formless, survey-many, survey-unused, survey-judged, entered-room, strains-few, strains-some, leaves-all, leaves-out}
 use borrow.Author.Needs.{needs}
 use Rattle.newick_survey.proofs.of_text.Statement.{statement}
 use Rattle.newick_survey.proofs.of_text.Tie as tie
@@ -54,17 +54,17 @@ refused-requires c κs = search needs
 returns : tie.Need-returns
 returns c = let p = c .before .before .before .before .before in survey-formless (placeOf (p .args .names .now) headSize (p .args .n)) (p .args .n) (p .args .text .now) (c .refused .result) (subst (TextRead (p .args .text .now)) (not-true (c .before .before .is-text .result) (c .before .if1 .taken)) (c .before .before .is-text .ensures)) (c .refused .ensures)
 
-count-byte-requires : tie.Need-count-byte-requires
-count-byte-requires c κs = search needs
+sub-count-is : tie.Need-sub-count-is
+sub-count-is c = omega (arith, strains-some (start c .args .n) (start c .pre .0))
 
-add-if2 : tie.Need-add-if2
-add-if2 c = search needs
+count-is-requires : tie.Need-count-is-requires
+count-is-requires c κs = search needs
 
 refused-requires-2 : tie.Need-refused-requires-2
 refused-requires-2 c κs = search needs
 
 returns-2 : tie.Need-returns-2
-returns-2 c = let k = c .before .before .before in survey-many (find k) (start k .args .n) (start k .args .text .now) (c .refused2 .result) (form k) (c .before .before .count-byte .result) (c .before .before .count-byte .ensures .0) (c .before .if2 .taken) (c .refused2 .ensures)
+returns-2 c = let k = c .before .before .before in let p = start k in survey-many (find k) (p .args .n) (p .args .text .now) (c .refused2 .result) (form k) (leaves-out (p .args .n) (p .pre .0) (p .args .text .now) (sym (c .before .before .count-is .ensures) ∙ not-true _ (c .before .if2 .taken))) (c .refused2 .ensures)
 
 fill-tables-requires : tie.Need-fill-tables-requires
 fill-tables-requires c κs = let k = c .before .before in ((few (start k), start k .pre .1), form k)
@@ -79,22 +79,16 @@ refused-requires-3 : tie.Need-refused-requires-3
 refused-requires-3 c κs = search needs
 
 returns-3 : tie.Need-returns-3
-returns-3 c = let k = c .before .before .before .before .before .before in survey-unused (find (of-form (c .before .before .before .before .before .before))) (start (of-form (c .before .before .before .before .before .before)) .args .n) (start (of-form (c .before .before .before .before .before .before)) .args .text .now) (c .refused3 .result) (form (of-form k)) (few (start (of-form k))) (found k) (entries k) (sym (c .before .before .unused .ensures) ∙ c .before .if3 .taken) (c .refused3 .ensures)
-
-count-byte-requires-2 : tie.Need-count-byte-requires-2
-count-byte-requires-2 c κs = search needs
-
-add-edges : tie.Need-add-edges
-add-edges c = search needs
-
-sub-edges : tie.Need-sub-edges
-sub-edges c = search needs
+returns-3 c = let k = c .before .before .before .before .before .before in let p = start (of-form k) in survey-unused (find (of-form k)) (p .args .n) (p .args .text .now) (c .refused3 .result) (form (of-form k)) (few p) (found k) (entries k) (sym (c .before .before .unused .ensures) ∙ c .before .if3 .taken) (c .refused3 .ensures)
 
 judged-requires : tie.Need-judged-requires
-judged-requires c κs = let k = c .before .before .before .before .before .before in (few (start (of-form k)), room k .0, room k .1)
+judged-requires c κs = let k = c .before .before .before .before .before in (few (start (of-form k)), room k .0, room k .1)
 
 returns-4 : tie.Need-returns-4
-returns-4 c = let k = c .before .before .before .before .before .before .before in survey-judged (find (of-form (c .before .before .before .before .before .before .before))) (start (of-form (c .before .before .before .before .before .before .before)) .args .n) (start (of-form (c .before .before .before .before .before .before .before)) .args .text .now) _ (form (of-form k)) (few (start (of-form k))) (found k) (entries k) (start (of-form k) .pre .0) (c .before .before .before .before .before .before .before .before .before .count-byte .result) (c .before .before .before .before .before .before .before .before .before .count-byte .ensures .0) (c .before .before .before .before .before .before .before .before .if2 .left) (sym (c .before .before .before .unused .ensures) ∙ c .before .before .if3 .left) (c .before .count-byte2 .result) (c .before .count-byte2 .ensures .0) (c .judged .ensures) refl refl refl refl
+returns-4 c = let k = c .before .before .before .before .before .before in let p = start (of-form k) in
+    survey-judged (find (of-form k)) (p .args .n) (p .args .text .now) _ (form (of-form k)) (few p) (found k) (entries k) (p .pre .0)
+    (leaves-all (p .args .n) (p .pre .0) (p .args .text .now) (sym (k .before .before .count-is .ensures) ∙ not-false _ (k .before .if2 .left)))
+    (sym (c .before .before .unused .ensures) ∙ c .before .if3 .left) (c .judged .ensures) refl refl refl refl
 
 pub of-text-spec : {M : Type 1} → statement M
 of-text-spec =
@@ -103,8 +97,8 @@ of-text-spec =
     is-text-requires
     refused-requires
     returns
-    count-byte-requires
-    add-if2
+    sub-count-is
+    count-is-requires
     refused-requires-2
     returns-2
     fill-tables-requires
@@ -112,8 +106,5 @@ of-text-spec =
     unused-requires
     refused-requires-3
     returns-3
-    count-byte-requires-2
-    add-edges
-    sub-edges
     judged-requires
     returns-4)

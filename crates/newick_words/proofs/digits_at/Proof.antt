@@ -9,13 +9,13 @@ use Rattle.newick_words.proofs.digits_at.Statement.{statement}
 use Rattle.newick_words.proofs.digits_at.Tie as tie
 
 abbrev Inv-loop : tie.InvT-loop
-Inv-loop text at number end₀ all₀ end all = Gathered text at number end all
+Inv-loop text at end₀ number₀ end number = Gathered text at end number
 
 abbrev μ-loop : tie.MeasureT-loop
-μ-loop text at number end₀ all₀ end all = length text - end
+μ-loop text at end₀ number₀ end number = length text - end
 
 loop-holds : tie.Need-loop-holds Inv-loop μ-loop
-loop-holds c = let p = c .before in gathered-none (p .args .text .now) (p .args .at) (p .args .number) (p .pre .0) (p .pre .1)
+loop-holds c = let p = c .before in gathered-none (p .args .text .now) (p .args .at) (p .pre)
 
 shared-slice-read-byte : tie.Need-shared-slice-read-byte Inv-loop μ-loop
 shared-slice-read-byte c = search needs
@@ -24,7 +24,7 @@ is-digit-requires : tie.Need-is-digit-requires Inv-loop μ-loop
 is-digit-requires c κs = search needs
 
 returns : tie.Need-returns Inv-loop μ-loop
-returns c = let l = c .before .before .before .before in let p = l .before .before in gathered-stop (p .args .text .now) (p .args .at) (p .args .number) (p .pre .0) (l .loop .end) (l .loop .all) (l .loop .inv) (c .before .before .before .loop-test .taken) (sym (c .before .is-digit .ensures) ∙ not-true _ (c .if1 .taken))
+returns c = let l = c .before .before .before .before in let p = l .before .before in gathered-stop (p .args .text .now) (p .args .at) (p .pre) (l .loop .end) (l .loop .number) (l .loop .inv) (c .before .before .before .loop-test .taken) (sym (c .before .is-digit .ensures) ∙ not-true _ (c .if1 .taken))
 
 longer-requires : tie.Need-longer-requires Inv-loop μ-loop
 longer-requires c κs = c .before .before .before .before .loop .inv .small
@@ -36,10 +36,10 @@ loop-less : tie.Need-loop-less Inv-loop μ-loop
 loop-less c = search needs
 
 loop-again : tie.Need-loop-again Inv-loop μ-loop
-loop-again c = let k = c .before in let l = k .before .before .before .before in let p = l .before .before in gathered-more (p .args .text .now) (p .args .at) (p .args .number) (p .pre .0) (l .loop .end) (l .loop .all) (l .loop .inv) (k .before .before .before .loop-test .taken) (sym (k .before .is-digit .ensures) ∙ not-false _ (k .if1 .left)) (c .longer .result) (c .longer .ensures .0) (c .longer .ensures .1)
+loop-again c = let k = c .before in let l = k .before .before .before .before in let p = l .before .before in gathered-more (p .args .text .now) (p .args .at) (p .pre) (l .loop .end) (l .loop .number) (l .loop .inv) (k .before .before .before .loop-test .taken) (sym (k .before .is-digit .ensures) ∙ not-false _ (k .if1 .left)) (c .longer .result) (c .longer .ensures .0) (c .longer .ensures .1)
 
 returns-2 : tie.Need-returns-2 Inv-loop μ-loop
-returns-2 c = let l = c .before in let p = l .before .before in gathered-end (p .args .text .now) (p .args .at) (p .args .number) (p .pre .0) (l .loop .end) (l .loop .all) (l .loop .inv) (c .loop-test .left)
+returns-2 c = let l = c .before in let p = l .before .before in gathered-end (p .args .text .now) (p .args .at) (p .pre) (l .loop .end) (l .loop .number) (l .loop .inv) (c .loop-test .left)
 
 pub digits-at-spec : {M : Type 1} → statement M
 digits-at-spec =
