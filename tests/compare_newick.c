@@ -12,6 +12,7 @@
 #include <stdlib.h>
 #include <string.h>
 
+#include "drawn.h"
 #ifdef OF_PLAIN
 #include "plain_newick.h"
 #define newick_read plain_newick_read
@@ -25,22 +26,6 @@ enum { TEXT = 65536, LONGEST = 4 * TEXT, ROOM = 2 * TEXT, MARGIN = 64, FILL = 0x
 
 static uint8_t bytes[LONGEST], more[LONGEST], text[ROOM], parents[ROOM], parents_again[MARGIN + 125], untouched[8 * ROOM];
 static int64_t numerators[ROOM], numerators_again[MARGIN + 125], given[ROOM];
-static long failed;
-
-static void expect(int fine, const char *what) {
-    if (!fine && failed++ < 20) {
-        fprintf(stderr, "failed: %s\n", what);
-    }
-}
-
-static int take(uint32_t *x) {
-    uint8_t b[4];
-    if (fread(b, 1, 4, stdin) != 4) {
-        return 0;
-    }
-    *x = (uint32_t)b[0] | (uint32_t)b[1] << 8 | (uint32_t)b[2] << 16 | (uint32_t)b[3] << 24;
-    return 1;
-}
 
 static void take_bytes(uint8_t *to, size_t count, size_t most) {
     if (count > most || fread(to, 1, count, stdin) != count) {

@@ -6,28 +6,13 @@
 #include <stdlib.h>
 #include <string.h>
 
+#include "drawn.h"
 #include "vamuthexa.h"
 
 enum { TEXT = 65536, LONGEST = 2 * TEXT, ROOM = 8 * TEXT, MARGIN = 64 };
 
 static uint8_t text[LONGEST], again[TEXT + 1], before[TEXT + 1], names[ROOM], names_were[ROOM];
 static uint16_t distances[ROOM], distances_were[ROOM];
-static long failed;
-
-static void expect(int fine, const char *what) {
-    if (!fine && failed++ < 20) {
-        fprintf(stderr, "failed: %s\n", what);
-    }
-}
-
-static int take(uint32_t *x) {
-    uint8_t b[4];
-    if (fread(b, 1, 4, stdin) != 4) {
-        return 0;
-    }
-    *x = (uint32_t)b[0] | (uint32_t)b[1] << 8 | (uint32_t)b[2] << 16 | (uint32_t)b[3] << 24;
-    return 1;
-}
 
 static void one(uint32_t size, uint32_t pairs, uint32_t name_bytes) {
     size_t seen = (pairs + MARGIN) * sizeof *distances, names_seen = name_bytes + MARGIN;
