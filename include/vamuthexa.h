@@ -8,7 +8,7 @@
  * call any of them at once, as long as no buffer that one of them writes is lent to another.
  *
  * Tables are on the stack. A verdict takes 23,400 bytes of it, a print of a sheet at most 34,700, newick_print 33,500,
- * newick_read 45,100 and each of the others less, as measured with the largest sheets and the deepest trees; 64 KiB are
+ * newick_read 42,100 and each of the others less, as measured with the largest sheets and the deepest trees; 64 KiB are
  * enough for a thread that calls any of them (bench/RESULTS.md, What an entry takes of the stack).
  *
  * Each function says what to link with; where several archives are wanted, in any order. */
