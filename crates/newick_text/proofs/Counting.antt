@@ -1,5 +1,5 @@
--- Leaves and brackets, counted without reading: a text of the form has a comma less than leaves, and as many opening brackets as brackets
--- (`commas`, `openings`); and numbers rise by one with each bracket (`row-number`).
+-- Leaves counted without reading: a text of the form has a comma less than leaves (`commas`); and numbers rise by one with each bracket
+-- (`rows-number`).
 use mathlib.Core.Path.{_≡_, refl, sym, _∙_, ap}
 use mathlib.Core.Bool.{Bool, true, false, cond, true≢false}
 use mathlib.Core.List.{List, [], _∷_, _++_}
@@ -81,16 +81,9 @@ name-comma : isNameByte 44 ≡ false
 unfolding isNameByte
 name-comma = refl
 
-name-open : isNameByte 40 ≡ false
-unfolding isNameByte
-name-open = refl
-
 -- behind a child: a colon, its length, and the rest
 behind-comma : (l k : List ℕ) → isLength l ≡ true → occurs 44 (58 ∷ (l ++ k)) ≡ occurs 44 k
 behind-comma l k h = occurs-other 44 58 (l ++ k) (λ e. omega (arith, e)) ∙ occurs-append 44 l k ∙ omega (arith, length-clear 44 refl (λ e. omega (arith, e)) (λ e. omega (arith, e)) l h)
-
-behind-open : (l k : List ℕ) → isLength l ≡ true → occurs 40 (58 ∷ (l ++ k)) ≡ occurs 40 k
-behind-open l k h = occurs-other 40 58 (l ++ k) (λ e. omega (arith, e)) ∙ occurs-append 40 l k ∙ omega (arith, length-clear 40 refl (λ e. omega (arith, e)) (λ e. omega (arith, e)) l h)
 
 -- leaves and brackets among children
 abbrev rowLeaves : Row → ℕ
@@ -142,32 +135,10 @@ mutual
       let b = row-commas r m 44 1 k (itself 44) (f .2) in
       omega (arith, one-more 44 lead (textThen t K), e, a, behind-comma l (rowThen r 44 k) (f .1), b)
 
--- ---- opening brackets, likewise
-mutual
-  unfolding textThen tally Formed
-
-  tree-openings : (t : Tree) (m : ℕ) (k : List ℕ) → Formed t m → occurs 40 (textThen t k) ≡ bracketsOf t + occurs 40 k
-  tree-openings (leaf n) m k f = omega (arith, occurs-append 40 n k, name-clear 40 n name-open f)
-  tree-openings (node r) m k f =
-      let a = row-openings r (m - 1) 40 1 k (itself 40) (f .2) in
-      omega (arith, a, lead-some r 1 (f .1))
-
-  row-openings : (r : Row) (m lead x : ℕ) (k : List ℕ) → occurs 40 (lead ∷ []) ≡ x → RowFormed r m → occurs 40 (rowThen r lead k) ≡ lead-of r x + rowBrackets r + occurs 40 k
-  row-openings none m lead x k e f = omega (arith, one-more 40 41 k, other 40 41 (λ z. omega (arith, z)))
-  row-openings (some t l r) m lead x k e f =
-      let K : List ℕ = 58 ∷ (l ++ rowThen r 44 k) in
-      let a = tree-openings t m K (f .0) in
-      let b = row-openings r m 44 0 k (other 40 44 (λ z. omega (arith, z))) (f .2) in
-      omega (arith, one-more 40 lead (textThen t K), e, a, behind-open l (rowThen r 44 k) (f .1), b, lead-zero r)
-
 -- a whole text
 pub commas : (s : List ℕ) (r : Row) → Text s r → leavesOf (node r) ≡ occurs 44 s + 1
 unfolding textThen
 commas s r x = omega (arith, ap (occurs 44) (x .text), tree-commas (node r) _ (59 ∷ []) (x .formed), other 44 59 (λ e. omega (arith, e)))
-
-pub openings : (s : List ℕ) (r : Row) → Text s r → bracketsOf (node r) ≡ occurs 40 s
-unfolding textThen
-openings s r x = omega (arith, ap (occurs 40) (x .text), tree-openings (node r) _ (59 ∷ []) (x .formed), other 40 59 (λ e. omega (arith, e)))
 
 -- ---- numbers
 mutual
@@ -180,8 +151,3 @@ mutual
   pub rows-number : (r : Row) (k : ℕ) → rowAfter r k ≡ k + rowBrackets r
   rows-number none k = omega arith
   rows-number (some t l r) k = let a = tree-number t k in let b = rows-number r (after t k) in omega (arith, a, b)
-
--- the number behind the last is one above the root's
-pub row-number : (r : Row) (k : ℕ) → rowAfter r k + 1 ≡ k + bracketsOf (node r)
-unfolding tally
-row-number r k = omega (arith, rows-number r k)
