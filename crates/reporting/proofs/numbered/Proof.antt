@@ -70,7 +70,7 @@ returns c = let s = c .before .before .before .before .before .before .before .b
         mean = c .before .mean-over .ensures;
         rounded = rounded-is _ _ _ _ _ _ p _ e _ (c .before .before .before .copy-out .ensures);
         stands = p;
-        least = least _ _ _ _ _ _ p;
+        least = least _ _ _ _ _ _ (p .fitted);
         near = total-near _ _ _ _ _ _ p;
       },
     )
