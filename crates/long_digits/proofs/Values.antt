@@ -1,7 +1,7 @@
 -- Laws of numbers in digits.
 use mathlib.Core.Path.{_≡_, refl, sym, _∙_, ap, ap₂}
 use mathlib.Core.List.{[], _∷_}
-use Prim.Native.Nat.{ℕ, zero, suc, _<_}
+use Prim.Native.Nat.{ℕ, zero, suc, _+_, _*_, _<_}
 use native.Mathlib.Decide.{ℕ-discrete}
 use native.Mathlib.Omega.{arith}
 use lib.IntN.{ℤ, pos, _+ℤ_, _*ℤ_, *ℤ-zero}
@@ -56,3 +56,7 @@ none-natural (suc L) f e k l = let ih : natural L f ≡ 0 → k < L → f k ≡ 
     go : Dec (k ≡ L) → (natural L f ≡ 0 → k < L → f k ≡ 0) → f k ≡ 0
     go (yes q) ih = ap f q ∙ omega (arith, e)
     go (no q) ih = ih (omega (arith, e)) (omega arith)
+
+pub natural-suc : (L : ℕ) (f : ℕ → ℕ) → natural (suc L) f ≡ base * natural L f + f L
+unfolding natural
+natural-suc L f = refl
