@@ -41,7 +41,8 @@ fn parted(z: i64) -> Part
     }
 }
 
-fn no_digits() -> [u32; WIDE]
+// Zeros, room for such digits.
+pub fn no_digits() -> [u32; WIDE]
     ensures { λ r. ⌜ r ≡ table wideSize (λ _. 0) ⌝ }
 {
     [0; WIDE]

@@ -177,6 +177,10 @@ module _ (u : ℕ) (h : u ≤ 200000000001) where
     pub result-is : toZ w64 (ofZ w64 (toZ w64 u -ℤ pos m)) ≡ pos u -ℤ pos m
     result-is = ap (λ z. toZ w64 (ofZ w64 (z -ℤ pos m))) twice ∙ back (pos u -ℤ pos m) (omega (arith, parity u m))
 
+-- how far the result is from 0
+pub result-near : (u : ℕ) → u ≤ 200000000000 → (m : ℕ) → 100000000000 ≤ m → m ≤ 100000000001 → (h : u ≤ 200000000001) → natAbs (toZ w64 (ofZ w64 (toZ w64 u -ℤ pos m))) ≤ 100000000001
+result-near u few m low high h = omega (arith, ap natAbs (result-is u h m high), parity u m)
+
 -- a number cut off to 0 is 0, and no other is
 pub cut-zero : (y z : ℤ) → y ≡ clamp most z → ofZ w64 y ≡ 0 → z ≡ pos 0
 cut-zero y z e b = abs-zero z (eqb-true (natAbs z) 0 (sym (sign-zero 999999999999 z) ∙ eq-yes (ap natAbs (sym (bits y z e) ∙ ap (toZ w64) b))))

@@ -1,7 +1,7 @@
 // The thousandths of a length whose denominator and numerator are written in digits, found by halving.
 ghost use mathlib.Core.Path.{_≡_};
 ghost use Prim.Native.Nat.{_≤_};
-ghost use lib.IntN.{pos};
+ghost use lib.IntN.{pos, natAbs};
 ghost use Rattle.exact.specs.Nearest.{nearest};
 ghost use Rattle.long_digits.specs.Clamp.{clamp, most};
 ghost use Rattle.long_theory.specs.Long.{longDenominator, longNumerator};
@@ -48,7 +48,7 @@ fn greatest(edges: usize, levels: usize, d: &[u32], digits: &[i64], v: usize) ->
 pub fn long_thousandths(edges: usize, levels: usize, d: &[u32], digits: &[i64], v: usize) -> i64
     requires { ⌜ LongEdge edges levels (now d) (now digits) v ⌝ }
     requires { ⌜ LongNear edges levels (now d) (now digits) v ⌝ }
-    ensures { λ r. ⌜ r ≡ nearest (longDenominator levels (now (d .entry))) (longNumerator levels edges (now (digits .entry)) v) ⌝ }
+    ensures { λ r. ⌜ (r ≡ nearest (longDenominator levels (now (d .entry))) (longNumerator levels edges (now (digits .entry)) v)) × (natAbs r ≤ 100000000001) ⌝ }
 {
     let u = greatest(edges, levels, d, digits, v);
     if u % 2 == 0 {
