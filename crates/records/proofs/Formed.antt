@@ -1,7 +1,7 @@
 -- What a form that stands tells: how long the sheet is, where each record starts, its kind, how many names there are, and that the last
 -- record ends with the sheet; and the same of a record by the start that `records` gives (`record-at`).
 use mathlib.Core.Path.{_≡_, sym, ap, _∙_}
-use mathlib.Core.Bool.{Bool, cond, not, _&&_}
+use mathlib.Core.Bool.{Bool, not, _&&_}
 use mathlib.Core.List.{List}
 use Prim.Native.Nat.{ℕ, suc, _+_, _<_, _≤_}
 use native.Mathlib.Decide.{decLt}
@@ -16,11 +16,11 @@ use Rattle.verdict.specs.Answer.{Answer, pass, test, testAt, _orElse_}
 use Rattle.verdict.proofs.Answers.{orElse-pass, test-pass, testAt-pass, passes}
 use Rattle.endian.specs.Bytes.{number}
 use Rattle.records.specs.Names.{nameStart}
-use Rattle.records.specs.Form.{maxSheet, maxNamed, longest, namesKind, kindOf, kindAt, endAt, bodyAt, bodyLength, countAt, countsOut, namesAt, namesCut, startOf, recordTests, recordsTests, namesDiffer, formTests}
+use Rattle.records.specs.Form.{maxSheet, maxNamed, longest, namesKind, kindOf, kindAt, endAt, bodyAt, bodyLength, countAt, namesAt, startOf, recordTests, recordsTests, namesDiffer, formTests}
 use Rattle.records.specs.Laid.{maxStarts, LayoutAnswer}
 use Rattle.records.specs.declared.Layout.{Layout}
 use Rattle.records.proofs.Decoding.{padded-before}
-use Rattle.records.proofs.Counts.{counted}
+use Rattle.records.proofs.Counts.{counted, body-counts}
 use Rattle.records.proofs.InTurn.{record-there, record-counted, record-kind, next-start, each-passes, starts-within}
 
 module _ (count : ℕ) (s : List ℕ) (z : formTests count s ≡ pass) where
@@ -69,8 +69,7 @@ module _ (count : ℕ) (s : List ℕ) (z : formTests count s ≡ pass) where
     pub record-long : k < 3 → startOf s (suc k) ≡ bodyAt (startOf s k) + bodyLength (kindOf k) (countAt s (startOf s k) (kindOf k))
     record-long h =
         let kind : kindOf k ≡ k + 1 = rw (ne-eqb k 3 (omega arith)) in
-        let other = ne-eqb (kindOf k) namesKind (omega (arith, kind)) in
-        let counts = sym (ap (λ (b : Bool). cond b (namesCut s (startOf s k)) (countsOut s (startOf s k) (kindOf k))) other) ∙ record-counted s (startOf s k) (kindOf k) passing in
+        let counts = sym (body-counts s (startOf s k) (kindOf k) (λ e. omega (arith, kind)) (λ e. omega (arith, kind))) ∙ record-counted s (startOf s k) (kindOf k) passing in
         next-start s k ∙ ap (λ (n : ℕ). bodyAt (startOf s k) + n) (counted s (startOf s k) (kindOf k) counts)
 
     pub kind-due : kindAt s (startOf s k) ≡ kindOf k
