@@ -198,7 +198,7 @@ fn no_starts() -> [usize; Layout::MAX_STARTS]
 }
 
 // A refusal, with no starts.
-fn refused(refusal: Refusal) -> Layout
+pub fn refused(refusal: Refusal) -> Layout
     ensures { λ r. ⌜ (r .verdict ≡ Verdict.Refused refusal) × (r .starts ≡ table maxStarts (λ _. 0)) ⌝ }
 {
     Layout {
@@ -208,7 +208,7 @@ fn refused(refusal: Refusal) -> Layout
 }
 
 // 2, 3, 4 for each of so many records in turn.
-fn in_turn(s: &[u8], count: usize) -> Layout
+pub fn in_turn(s: &[u8], count: usize) -> Layout
     requires { ⌜ count ≤ maxRecords ⌝ }
     ensures { λ r. ⌜ Laid (recordsTests (now (s .entry)) count) count (now (s .entry)) r ⌝ }
 {
