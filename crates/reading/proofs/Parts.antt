@@ -26,7 +26,7 @@ use Rattle.reading.specs.Holds.{strainsOf, distanceAt, distancesOf, vert
 use Rattle.reading.specs.Tests.{edgesDiffer, pairTests, readTests}
 use Rattle.reading.specs.Reads.{Held, SheetAnswer}
 use Rattle.reading.proofs.Formed.{Fronted, fronted, parents-start, parents-count, parents-are}
-use Rattle.reading.proofs.Answered.{pair-shaped, pair-posted, parents-few}
+use Rattle.front.proofs.Answered.{pair-shaped, pair-posted, parents-few}
 
 -- the matrix at the front of its array, the parents as a part of the bytes
 pub record Parts (s : List ℕ) (r : Sheet) : Type 0 where
