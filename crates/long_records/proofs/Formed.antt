@@ -1,7 +1,9 @@
 -- What the form of a long sheet that stands tells: how long the sheet is, that its matrix and its tree pass, and where the long lengths stand.
 use mathlib.Core.Path.{_≡_, refl, sym, ap, _∙_}
 use mathlib.Core.List.{List}
-use Prim.Native.Nat.{ℕ, _+_, _*_, _≤_}
+use Prim.Native.Nat.{ℕ, suc, _+_, _*_, _≤_}
+use native.Mathlib.Nat.{mul-suc}
+use native.Mathlib.Numerals.{add-one}
 use native.Mathlib.Omega.{arith}
 use borrow.Author.Tests.{ltb-false}
 use lib.Dec.{ltb}
@@ -9,6 +11,7 @@ use lib.ListN.{length}
 use Rattle.verdict.specs.declared.Place.the-variants.{Byte}
 use Rattle.verdict.specs.Answer.{Answer, pass, test, testAt, _orElse_}
 use Rattle.verdict.proofs.Answers.{orElse-pass, test-pass, testAt-pass}
+use Rattle.endian.specs.Bytes.{number}
 use Rattle.records.specs.Form.{longKind, sizeAt, bodyAt, levelsAt, longEdgesAt, longLength, startOf, recordTests, recordsTests}
 use Rattle.records.proofs.Counts.{long-counted}
 use Rattle.records.proofs.InTurn.{next-start, record-there, record-counted}
@@ -54,3 +57,10 @@ module _ (s : List ℕ) (z : longFormTests s ≡ pass) where
   long-whole =
       ap (λ (n : ℕ). bodyAt (startOf s 2) + n) (sym (long-counted s (startOf s 2) (record-counted s (startOf s 2) longKind long-third)))
       ∙ sym (next-start s 2) ∙ long-ends
+
+  -- L digits of D and L of each of K numerators, from where the record starts
+  digits-from : (end l k : ℕ) → end + 6 + longLength l k ≡ length s → end + 10 + 4 * l + 4 * (l * k) ≡ length s
+  digits-from end l k e = let h : l * (k + 1) ≡ l * k + l = ap (λ (i : ℕ). l * i) (add-one k) ∙ mul-suc l k in omega (arith, e)
+
+  pub digits-there : (end : ℕ) → end ≡ startOf s 2 → end + 10 + 4 * number 2 s (end + 6) + 4 * (number 2 s (end + 6) * number 2 s (end + 6 + 2)) ≡ length s
+  digits-there end e = rw e (digits-from (startOf s 2) (levelsAt s (startOf s 2)) (longEdgesAt s (startOf s 2)) long-whole)
