@@ -34,7 +34,10 @@ prefix K f r few t = table-is (pos 0) f K (take K r) (length-take-le K r (omega 
 pub prefix-long : (K : ℕ) (f : ℕ → ℤ) (r : List ℤ) → K ≤ maxEdges → EdgeTable K f r → K ≡ length (take K r)
 prefix-long K f r few t = sym (length-take-le K r (omega (arith, t .size)))
 
-module _ {N L : ℕ} {ds ps Ds : List ℕ} {ns : List ℤ} (p : Posted N ds ps) (l : LongProper (length ps) L Ds ns) where
+module _ {N : ℕ} {ds ps Ds : List ℕ} {ns : List ℤ} (p : Posted N ds ps) (l : LongProper (length ps) Ds ns) where
+  abbrev L : ℕ
+  L = length Ds
+
   pub digits-ready : LongDigits (length ps) L ns
   digits-ready = record { few = l .few; table = omega (arith, l .whole); tops = l .tops }
 
@@ -43,14 +46,14 @@ module _ {N L : ℕ} {ds ps Ds : List ℕ} {ns : List ℤ} (p : Posted N ds ps) 
     standing = standing N ps cs e (p .tree);
     room = omega (arith, p .matrix .whole);
     near = known-near (p .matrix);
-    levels = omega (arith, l .levels);
+    levels = omega arith;
     digits = l .digits;
     table = omega (arith, l .whole);
     tops = l .tops;
   }
 
   -- each sum is that of the numerators as a list
-  pub sums-are : (r : List ℤ) → LongSums N (length ps) L Ds ds ps ns r → (v : ℕ) → v < length ps → entryOf r v ≡ longSumOf N ds ps L Ds ns v
+  pub sums-are : (r : List ℤ) → LongSums N (length ps) L Ds ds ps ns r → (v : ℕ) → v < length ps → entryOf r v ≡ longSumOf N ds ps Ds ns v
   sums-are r t v h = t .entries v h ∙ ap (clamp most) (S-cong (pairs-sums N) (λ q. ap (λ z. ind (partsIn ds ps v q) *ℤ (pos (longDenominator L Ds) *ℤ distance ds q -ℤ z))
       (path-cong (length ps) (partsIn ds ps) (longNumerator L (length ps) ns) (entryOf (longNumerators L (length ps) ns))
       (λ u k. sym (getD-table (length ps) (longNumerator L (length ps) ns) (pos 0) u k)) q)))

@@ -23,7 +23,7 @@ use Rattle.long_digits.specs.Clamp.{clamp, most}
 use Rattle.long_digits.proofs.Clamps.{sign-zero, sign-below, clamp-near, clamp-in}
 use Rattle.fit_theory.proofs.Zeros.{yes-less, negative-not, abs-zero}
 use Rattle.long_theory.specs.Long.{maxLength}
-use Rattle.long_rounding.specs.Ready.{measure, reachOf, Greatest}
+use Rattle.long_rounding.specs.Ready.{reachOf, Greatest}
 
 -- the search so far
 pub record Searching (D n : ℤ) (low high : ℕ) : Type 0 where

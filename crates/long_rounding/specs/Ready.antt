@@ -1,28 +1,15 @@
 -- What the rounding of a long length needs.
 use mathlib.Core.List.{List}
-use Prim.Native.Nat.{ℕ, _+_, _*_, _≤_, _<_}
-use lib.IntN.{ℤ, pos, natAbs, _+ℤ_, _-ℤ_, _*ℤ_}
-use lib.ListN.{length, getD}
+use Prim.Native.Nat.{ℕ, _*_, _≤_}
+use lib.IntN.{ℤ, pos, natAbs, _-ℤ_, _*ℤ_}
 use Rattle.exact.specs.Order.{_≤ᶻ_, _<ᶻ_}
-use Rattle.exact.specs.Table.{entryOf}
-use Rattle.long_digits.specs.Digits.{base}
 use Rattle.long_theory.specs.Long.{longDenominator, longNumerator, maxLength}
-
--- L digits of D, and of the numerators of K edges
-pub record LongTable (K L : ℕ) (Ds : List ℕ) (ns : List ℤ) : Type 0 where
-  pub levels : L ≤ length Ds
-  pub digits : (k : ℕ) → getD Ds k 0 < base
-  pub table : L * K ≤ length ns
-  pub tops : (k : ℕ) → natAbs (entryOf ns k) < base
+use Rattle.long_lengths.specs.Edge.{measure}
 
 -- a length within its range
 pub record LongNear (K L : ℕ) (Ds : List ℕ) (ns : List ℤ) (v : ℕ) : Type 0 where
   pub one : 1 ≤ longDenominator L Ds
   pub near : natAbs (longNumerator L K ns v) ≤ maxLength * longDenominator L Ds
-
--- 2000·n + b·D
-abbrev pub measure : ℤ → ℤ → ℤ → ℤ
-measure b D n = pos 2000 *ℤ n +ℤ b *ℤ D
 
 -- 2000·n - (2·(u - 10^11) - 1)·D: not negative where u - 10^11 is at most half above 1000·n/D
 abbrev pub reachOf : ℤ → ℤ → ℕ → ℤ

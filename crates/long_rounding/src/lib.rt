@@ -1,44 +1,20 @@
 // The thousandths of a length whose denominator and numerator are written in digits, found by halving.
 ghost use mathlib.Core.Path.{_≡_};
-ghost use Prim.Native.Nat.{_≤_, _<_};
-ghost use lib.IntN.{pos, natAbs, _+ℤ_, _*ℤ_};
+ghost use Prim.Native.Nat.{_≤_};
+ghost use lib.IntN.{pos};
 ghost use Rattle.exact.specs.Nearest.{nearest};
-ghost use Rattle.long_digits.specs.Digits.{base};
 ghost use Rattle.long_digits.specs.Clamp.{clamp, most};
 ghost use Rattle.long_theory.specs.Long.{longDenominator, longNumerator};
-ghost use Rattle.long_rounding.specs.Ready.{LongTable, LongNear, measure, reachOf, Greatest};
-
-// 2000·x + b·d, of one digit.
-fn term(x: i64, b: i64, d: u32) -> i64
-    requires { ⌜ (natAbs x < base) × (natAbs b ≤ 200000000001) × (d < base) ⌝ }
-    ensures { λ r. ⌜ r ≡ measure b (pos d) x ⌝ }
-{
-    2000 * x + b * (d as i64)
-}
-
-// 2000·n + b·D, cut off: its sign.
-fn compare(edges: usize, levels: usize, d: &[u32], digits: &[i64], v: usize, b: i64) -> i64
-    requires { ⌜ LongTable edges levels (now d) (now digits) ⌝ }
-    requires { ⌜ (v < edges) × (natAbs b ≤ 200000000001) ⌝ }
-    ensures { λ r. ⌜ r ≡ clamp most (measure b (pos (longDenominator levels (now (d .entry)))) (longNumerator levels edges (now (digits .entry)) v)) ⌝ }
-{
-    let mut whole: i64 = 0;
-    let mut k = 0;
-    while k < levels {
-        let next = term(digits[k * edges + v], b, d[k]);
-        whole = long_sums::next_digit(whole, next);
-        k += 1;
-    }
-    whole
-}
+ghost use Rattle.long_lengths.specs.Edge.{LongEdge};
+ghost use Rattle.long_rounding.specs.Ready.{LongNear, reachOf, Greatest};
 
 // 2000·n - (2·(u - 10^11) - 1)·D, cut off: its sign.
 fn reach(edges: usize, levels: usize, d: &[u32], digits: &[i64], v: usize, u: u64) -> i64
-    requires { ⌜ LongTable edges levels (now d) (now digits) ⌝ }
-    requires { ⌜ (v < edges) × (u ≤ 200000000001) ⌝ }
+    requires { ⌜ LongEdge edges levels (now d) (now digits) v ⌝ }
+    requires { ⌜ u ≤ 200000000001 ⌝ }
     ensures { λ r. ⌜ r ≡ clamp most (reachOf (pos (longDenominator levels (now (d .entry)))) (longNumerator levels edges (now (digits .entry)) v) u) ⌝ }
 {
-    compare(
+    long_lengths::compare(
         edges,
         levels,
         d,
@@ -50,8 +26,8 @@ fn reach(edges: usize, levels: usize, d: &[u32], digits: &[i64], v: usize, u: u6
 
 // Where the search ends: the greatest u up to 2·10^11 whose reach is not negative.
 fn greatest(edges: usize, levels: usize, d: &[u32], digits: &[i64], v: usize) -> u64
-    requires { ⌜ LongTable edges levels (now d) (now digits) ⌝ }
-    requires { ⌜ (v < edges) × LongNear edges levels (now d) (now digits) v ⌝ }
+    requires { ⌜ LongEdge edges levels (now d) (now digits) v ⌝ }
+    requires { ⌜ LongNear edges levels (now d) (now digits) v ⌝ }
     ensures { λ r. ⌜ Greatest (pos (longDenominator levels (now (d .entry)))) (longNumerator levels edges (now (digits .entry)) v) r ⌝ }
 {
     let mut low: u64 = 0;
@@ -70,8 +46,8 @@ fn greatest(edges: usize, levels: usize, d: &[u32], digits: &[i64], v: usize) ->
 // The whole number nearest 1000·n/D, a tie going to the even neighbour. The search is for the greatest m with 2000·n ≥ (2·m - 1)·D, by halving;
 // it is counted from -10^11.
 pub fn long_thousandths(edges: usize, levels: usize, d: &[u32], digits: &[i64], v: usize) -> i64
-    requires { ⌜ LongTable edges levels (now d) (now digits) ⌝ }
-    requires { ⌜ (v < edges) × LongNear edges levels (now d) (now digits) v ⌝ }
+    requires { ⌜ LongEdge edges levels (now d) (now digits) v ⌝ }
+    requires { ⌜ LongNear edges levels (now d) (now digits) v ⌝ }
     ensures { λ r. ⌜ r ≡ nearest (longDenominator levels (now (d .entry))) (longNumerator levels edges (now (digits .entry)) v) ⌝ }
 {
     let u = greatest(edges, levels, d, digits, v);

@@ -53,6 +53,18 @@ and-right : (a b : Bool) → b ≡ false → (a && b) ≡ false
 and-right true b e = e
 and-right false b e = refl
 
+-- where 12 does not apply, every digit of D is one
+pub denominator-digits : (Ds : List ℕ) → longDenominatorOut Ds ≡ false → (k : ℕ) → getD Ds k 0 < base
+denominator-digits Ds e k = go (lt-or-ge k (length Ds))
+  where
+    small : some (length Ds) (λ j. ltb 999999 (getD Ds j 0)) ≡ false
+    small = or-none (ltb maxLevels (length Ds)) (some (length Ds) (λ j. ltb 999999 (getD Ds j 0)))
+        (or-none (ltb maxLevels (length Ds) || some (length Ds) (λ j. ltb 999999 (getD Ds j 0))) (eqb (longDenominator (length Ds) Ds) 0) e .0) .1
+
+    go : (k < length Ds) ⊎ (length Ds ≤ k) → getD Ds k 0 < base
+    go (inl l) = omega (arith, ltb-false 999999 (getD Ds k 0) (some-none (length Ds) (λ j. ltb 999999 (getD Ds j 0)) small k l))
+    go (inr l) = omega (arith, List·getD-eq-default Ds 0 l)
+
 module _ (K : ℕ) (Ds : List ℕ) (ns : List ℤ) where
   abbrev L : ℕ
   L = length Ds
@@ -96,14 +108,14 @@ module _ (K : ℕ) (Ds : List ℕ) (ns : List ℤ) where
       let (e12, e13) = orElse-pass (test 12 (longDenominatorOut Ds)) (atFirst K (longNumeratorOut K Ds ns) (λ v. fault 13 (Edge v))) r in
       let (same, few) = or-none (not (eqb (length ns) (L * K))) (ltb maxEdges K) (test-pass 11 (longEdgesOut K L ns) e11) in
       let (q, some-D) = or-none (ltb maxLevels L || some L (λ k. ltb 999999 (getD Ds k 0))) (eqb (longDenominator L Ds) 0) (test-pass 12 (longDenominatorOut Ds) e12) in
-      let (most, small) = or-none (ltb maxLevels L) (some L (λ k. ltb 999999 (getD Ds k 0))) q in
+      let (most, _) = or-none (ltb maxLevels L) (some L (λ k. ltb 999999 (getD Ds k 0))) q in
       let whole = eqb-true (length ns) (L * K) (not-false (eqb (length ns) (L * K)) same) in
       let none : (v : ℕ) → v < K → longNumeratorOut K Ds ns v ≡ false = some-none K (longNumeratorOut K Ds ns) (first-pass K (longNumeratorOut K Ds ns) (λ v. fault 13 (Edge v)) (λ v. refuses 13 (Edge v)) e13) in
       record {
         few = ltb-false maxEdges K few;
         whole = whole;
         most = ltb-false maxLevels L most;
-        digits = λ k. in-denominator small k (lt-or-ge k L);
+        digits = denominator-digits Ds (test-pass 12 (longDenominatorOut Ds) e12);
         one = some-one (longDenominator L Ds) (eqb-false (longDenominator L Ds) 0 some-D);
         tops = λ i. in-table whole none i (lt-or-ge i (L * K));
         signs = λ v l. one-sign v (digits v (none v l) .1);
@@ -117,10 +129,6 @@ module _ (K : ℕ) (Ds : List ℕ) (ns : List ℤ) where
       some-one : (D : ℕ) → (D ≡ 0 → ⊥) → 1 ≤ D
       some-one zero h = absurd (h refl)
       some-one (suc D) h = omega arith
-
-      in-denominator : some L (λ k. ltb 999999 (getD Ds k 0)) ≡ false → (k : ℕ) → (k < L) ⊎ (L ≤ k) → getD Ds k 0 < base
-      in-denominator q k (inl l) = omega (arith, ltb-false 999999 (getD Ds k 0) (some-none L (λ j. ltb 999999 (getD Ds j 0)) q k l))
-      in-denominator q k (inr l) = omega (arith, List·getD-eq-default Ds 0 l)
 
       in-table : length ns ≡ L * K → ((v : ℕ) → v < K → longNumeratorOut K Ds ns v ≡ false) → (i : ℕ) → (i < L * K) ⊎ (L * K ≤ i) → natAbs (entryOf ns i) < base
       in-table whole none i (inl l) = let w = where-is L K i l in

@@ -42,8 +42,8 @@ returns : tie.Need-returns
 returns c = let s = c .before .before .before .before .before .before .before .before .before in
     let a = s .args in
     let g = c .before .before .before in
-    refused-row (c .before .of-signs .given .0 .0) (g .check-signs .result) (signTests (a .rule) (topsOf (a .levels) (length (a .parents .now)) (a .digits .now)))
-    (longSumsTests (a .rule) (a .n) (a .distances .now) (a .parents .now) (a .levels) (a .d .now) (a .digits .now)) (c .before .of-signs .given .1)
+    refused-row (c .before .of-signs .given .0 .0) (g .check-signs .result) (signTests (a .rule) (topsOf (length (a .d .now)) (length (a .parents .now)) (a .digits .now)))
+    (longSumsTests (a .rule) (a .n) (a .distances .now) (a .parents .now) (a .d .now) (a .digits .now)) (c .before .of-signs .given .1)
     (g .check-signs .ensures ∙ ap (signTests (a .rule)) (prefix _ _ _ (s .pre .1 .few) (c .before .before .before .before .before .long-tops .ensures)))
 
 enum-told : tie.Need-enum-told
@@ -71,9 +71,9 @@ returns-2 c = let s = c .before .before .before .before .before .before .before 
     let e = prefix _ _ _ (s .pre .1 .few) (c .before .before .before .before .before .before .before .before .before .before .long-tops .ensures) in
     c .balance .ensures
     ∙ same-sums (a .rule) (length (a .parents .now)) _ _ _ (sums-are (s .pre .0) (s .pre .1) _ (c .before .before .before .long-sums .ensures))
-    ∙ ap (λ (x : List ℤ). balanceTests (a .rule) (length (a .parents .now)) (entryOf x) (longSumOf (a .n) (a .distances .now) (a .parents .now) (a .levels) (a .d .now) (a .digits .now))) e
-    ∙ accepted-row (g .check-signs .result) (signTests (a .rule) (topsOf (a .levels) (length (a .parents .now)) (a .digits .now)))
-    (longSumsTests (a .rule) (a .n) (a .distances .now) (a .parents .now) (a .levels) (a .d .now) (a .digits .now)) (c .before .before .before .before .before .before .enum-told .given .1)
+    ∙ ap (λ (x : List ℤ). balanceTests (a .rule) (length (a .parents .now)) (entryOf x) (longSumOf (a .n) (a .distances .now) (a .parents .now) (a .d .now) (a .digits .now))) e
+    ∙ accepted-row (g .check-signs .result) (signTests (a .rule) (topsOf (length (a .d .now)) (length (a .parents .now)) (a .digits .now)))
+    (longSumsTests (a .rule) (a .n) (a .distances .now) (a .parents .now) (a .d .now) (a .digits .now)) (c .before .before .before .before .before .before .enum-told .given .1)
     (g .check-signs .ensures ∙ ap (signTests (a .rule)) e)
 
 pub check-long-fit-spec : {M : Type 1} → statement M

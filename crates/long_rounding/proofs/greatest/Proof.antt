@@ -17,7 +17,7 @@ abbrev μ-loop : tie.MeasureT-loop
 μ-loop edges levels d digits v low₀ high₀ low high = high - low
 
 loop-holds : tie.Need-loop-holds Inv-loop μ-loop
-loop-holds c = let s = c .before in search-start _ _ (s .pre .1 .1 .one) (s .pre .1 .1 .near)
+loop-holds c = let s = c .before in search-start _ _ (s .pre .1 .one) (s .pre .1 .near)
 
 add-loop : tie.Need-add-loop Inv-loop μ-loop
 add-loop c = omega (arith, c .loop .inv .apart, c .loop .inv .most)
@@ -29,7 +29,7 @@ add-mid : tie.Need-add-mid Inv-loop μ-loop
 add-mid c = omega (arith, c .before .loop .inv .apart, c .before .loop .inv .most)
 
 reach-requires : tie.Need-reach-requires Inv-loop μ-loop
-reach-requires c κs = let s = c .before .before .before in (s .pre .0, (s .pre .1 .0, omega (arith, c .before .loop .inv .apart, c .before .loop .inv .most)))
+reach-requires c κs = let s = c .before .before .before in (s .pre .0, omega (arith, c .before .loop .inv .apart, c .before .loop .inv .most))
 
 loop-less : tie.Need-loop-less Inv-loop μ-loop
 loop-less c = let l = c .before .before .before in omega (arith, l .loop .inv .apart, c .before .before .loop-test .taken)

@@ -22,7 +22,7 @@ sub-result c = result-fits (c .before .greatest .result) (omega (arith, c .befor
 
 returns : tie.Need-returns
 returns c = let s = c .before .before .before in result-is (c .before .greatest .result) (omega (arith, c .before .greatest .ensures .most)) 100000000000 (omega arith)
-    ∙ even-nearest _ _ (c .before .greatest .result) (s .pre .1 .1 .one) (c .before .greatest .ensures) (c .if1 .taken)
+    ∙ even-nearest _ _ (c .before .greatest .result) (s .pre .1 .one) (c .before .greatest .ensures) (c .if1 .taken)
 
 reach-requires : tie.Need-reach-requires
 reach-requires c κs = search needs
@@ -35,7 +35,7 @@ sub-result-2 c = result-fits (c .before .before .before .greatest .result) (omeg
 
 returns-2 : tie.Need-returns-2
 returns-2 c = let s = c .before .before .before .before .before in result-is (c .before .before .before .greatest .result) (omega (arith, c .before .before .before .greatest .ensures .most)) 100000000001 (omega arith)
-    ∙ tie-nearest _ _ (c .before .before .before .greatest .result) (s .pre .1 .1 .one) (c .before .before .before .greatest .ensures) (c .before .before .if1 .left) (cut-zero _ _ (c .before .reach .ensures) (c .if2 .taken))
+    ∙ tie-nearest _ _ (c .before .before .before .greatest .result) (s .pre .1 .one) (c .before .before .before .greatest .ensures) (c .before .before .if1 .left) (cut-zero _ _ (c .before .reach .ensures) (c .if2 .taken))
 
 cast-result-3 : tie.Need-cast-result-3
 cast-result-3 c = search needs
@@ -45,7 +45,7 @@ sub-result-3 c = result-fits (c .before .before .before .greatest .result) (omeg
 
 returns-3 : tie.Need-returns-3
 returns-3 c = let s = c .before .before .before .before .before in result-is (c .before .before .before .greatest .result) (omega (arith, c .before .before .before .greatest .ensures .most)) 100000000000 (omega arith)
-    ∙ plain-nearest _ _ (c .before .before .before .greatest .result) (s .pre .1 .1 .one) (c .before .before .before .greatest .ensures) (zero-cut _ _ (c .before .reach .ensures) (c .if2 .left))
+    ∙ plain-nearest _ _ (c .before .before .before .greatest .result) (s .pre .1 .one) (c .before .before .before .greatest .ensures) (zero-cut _ _ (c .before .reach .ensures) (c .if2 .left))
 
 pub long-thousandths-spec : {M : Type 1} → statement M
 long-thousandths-spec =

@@ -1,10 +1,10 @@
 -- Each part fits an i64.
-use Rattle.long_rounding.proofs.Terms.{left-fits, right-fits, both-fits, both-is}
+use Rattle.long_lengths.proofs.Terms.{left-fits, right-fits, both-fits, both-is}
 use borrow.Author.Needs.{needs}
-use Rattle.long_rounding.proofs.term.Statement.{statement}
-use Rattle.long_rounding.proofs.term.Tie as tie
-use Rattle.long_rounding.proofs.term.Reads as reads
-use Rattle.long_rounding.proofs.term.Lts as lts
+use Rattle.long_lengths.proofs.term.Statement.{statement}
+use Rattle.long_lengths.proofs.term.Tie as tie
+use Rattle.long_lengths.proofs.term.Reads as reads
+use Rattle.long_lengths.proofs.term.Lts as lts
 
 mul-result : tie.Need-mul-result
 mul-result c = left-fits (c .args .x) (c .args .b) (c .args .d) (c .pre .0) (c .pre .1) (c .pre .2)

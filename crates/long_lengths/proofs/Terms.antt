@@ -17,7 +17,7 @@ use Rattle.long_digits.specs.Clamp.{clamp, most}
 use Rattle.long_digits.proofs.Values.{value-pos, value-suc, value-none}
 use Rattle.long_digits.proofs.Clamps.{clamp-near, clamp-in, clamp-next}
 use Rattle.long_theory.specs.Long.{digitOf, longDenominator, longNumerator}
-use Rattle.long_rounding.specs.Ready.{LongTable, measure}
+use Rattle.long_lengths.specs.Edge.{LongEdge, measure}
 
 module _ (x b : ℤ) (d : ℕ) (hx : natAbs x < base) (hb : natAbs b ≤ 200000000001) (hd : d < base) where
   left-near : natAbs (pos 2000 *ℤ x) ≤ 2000 * base
@@ -66,7 +66,7 @@ pub record Compared (K L : ℕ) (Ds : List ℕ) (ns : List ℤ) (v : ℕ) (b : �
   pub here : k ≤ L
   pub sum : whole ≡ clamp most (value k (λ j. measure b (pos (getD Ds j 0)) (digitOf K ns j v)))
 
-module _ {K L : ℕ} {Ds : List ℕ} {ns : List ℤ} (w : LongTable K L Ds ns) (v : ℕ) (edge : v < K) (b : ℤ) (hb : natAbs b ≤ 200000000001) where
+module _ {K L : ℕ} {Ds : List ℕ} {ns : List ℤ} {v : ℕ} (w : LongEdge K L Ds ns v) (b : ℤ) (hb : natAbs b ≤ 200000000001) where
   f : ℕ → ℤ
   f j = measure b (pos (getD Ds j 0)) (digitOf K ns j v)
 
@@ -80,13 +80,13 @@ module _ {K L : ℕ} {Ds : List ℕ} {ns : List ℤ} (w : LongTable K L Ds ns) (
 
   module _ (k : ℕ) (l : k < L) where
     pub place-low : k * K + v < length ns
-    place-low = omega (arith, w .table, mul-le-mul-right {m = suc k} {n = L} K l)
+    place-low = omega (arith, w .row .table, w .row .edge, mul-le-mul-right {m = suc k} {n = L} K l)
 
     pub digit-back : toZ w64 (ofZ w64 (digitOf K ns k v)) ≡ digitOf K ns k v
-    digit-back = back (digitOf K ns k v) (omega (arith, w .tops (k * K + v)))
+    digit-back = back (digitOf K ns k v) (omega (arith, w .tops k l))
 
     pub term-near : natAbs (measure b (pos (getD Ds k 0)) (digitOf K ns k v)) ≤ 999999 * most
-    term-near = measure-near (digitOf K ns k v) b (getD Ds k 0) (w .tops (k * K + v)) hb (w .digits k)
+    term-near = measure-near (digitOf K ns k v) b (getD Ds k 0) (w .tops k l) hb (w .digits k)
 
     pub compare-turn : (z y t : ℤ) → Compared K L Ds ns v b k z → t ≡ measure b (pos (getD Ds k 0)) (digitOf K ns k v) → y ≡ clamp most (pos base *ℤ z +ℤ t) → Compared K L Ds ns v b (k + 1) y
     compare-turn z y t c e h = rw add-one (record {
