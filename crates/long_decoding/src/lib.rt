@@ -1,5 +1,5 @@
 // The digits of a long sheet's lengths, read from its bytes: those of D into a table of their own, those of the numerators into a lent one.
-use long_records::MAX_LEVELS;
+use long_lengths::MAX_LEVELS;
 use tree::Tree;
 ghost use mathlib.Core.Path.{_≡_};
 ghost use mathlib.Core.List.{_++_};

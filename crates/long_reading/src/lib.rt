@@ -1,6 +1,6 @@
 // A long sheet of bytes, read once: its matrix and its tree as those of any sheet, and where the digits of its long lengths start. The digits
 // themselves stay where they are.
-use long_records::MAX_LEVELS;
+use long_lengths::MAX_LEVELS;
 use matrix::Matrix;
 use records::Layout;
 use verdict::Place;

@@ -1,5 +1,6 @@
 // The form of a long sheet: the records of the matrix and of the tree as in any sheet, then the long lengths in place of the
 // lengths, and nothing else.
+use long_lengths::MAX_LEVELS;
 use matrix::Matrix;
 use records::Layout;
 use tree::Tree;
@@ -9,9 +10,6 @@ use verdict::Refusal;
 use verdict::Verdict;
 ghost use Rattle.records.specs.Laid.{Laid};
 ghost use Rattle.long_records.specs.LongForm.{longFormTests};
-
-// The most digits that D and each numerator may have.
-pub const MAX_LEVELS: usize = 52;
 
 // The most bytes of a long sheet: three heads, and the bodies of the largest matrix, tree and long lengths.
 pub const MAX_LONG: usize = 3 * Layout::HEAD
