@@ -9,7 +9,7 @@ use Rattle.endian.specs.Bytes.{number}
 use Rattle.records.specs.Form.{maxNamed, startOf, formTests}
 use Rattle.records.proofs.Formed.{form-bounded, form-records, record-ends, record-long}
 use Rattle.front.proofs.Formed as front
-pub use Rattle.front.proofs.Formed.{Fronted, parents-start, parents-count, parents-are}
+pub use Rattle.front.proofs.Formed.{Fronted, parents-start, parents-count}
 
 module _ (count : ℕ) (s : List ℕ) (z : formTests count s ≡ pass) where
   pub fronted : 2 ≤ count → (t l : ℕ) → t ≡ startOf s 1 → l ≡ startOf s 2 → Fronted s t l
