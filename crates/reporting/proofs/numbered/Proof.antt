@@ -38,7 +38,7 @@ sum-squares-requires : tie.Need-sum-squares-requires
 sum-squares-requires c κs = let s = c .before .before .before .before .before .before .before .before in
     let p = s .pre .0 in
     let e = c .before .before .before .before .rounded .ensures in
-    (ready-rounded _ _ _ _ _ _ p _ e (standing (s .args .n) (s .args .parents .now) _ (c .before .before .before .before .before .clusters .ensures) (p .tree)), r-fits _ _ _ _ _ _ p _ e)
+    (ready-rounded _ _ _ _ _ _ p _ e (standing (s .args .n) (s .args .parents .now) _ (c .before .before .before .before .before .clusters .ensures) (p .fitted .posted .tree)), r-fits _ _ _ _ _ _ p _ e)
 
 total-requires : tie.Need-total-requires
 total-requires c κs = let s = c .before .before .before .before .before .before .before .before .before in (edges-few _ _ _ _ _ _ (s .pre .0), in-range (s .pre .0 .lengths))
@@ -47,7 +47,7 @@ copy-out-requires : tie.Need-copy-out-requires
 copy-out-requires c κs = search needs
 
 mean-over-requires : tie.Need-mean-over-requires
-mean-over-requires c κs = c .before .before .before .before .before .before .before .before .before .before .before .before .before .before .pre .0 .matrix
+mean-over-requires c κs = c .before .before .before .before .before .before .before .before .before .before .before .before .before .before .pre .0 .fitted .posted .matrix
 
 same-length : tie.Need-same-length
 same-length c = search needs
