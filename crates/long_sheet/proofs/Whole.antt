@@ -27,7 +27,7 @@ grouped pass pass pass pass (fault n q) l x = refl
 grouped pass pass pass pass pass l x = refl
 
 module _ (rule : Rule) (s : List ℕ) where
-  by-reader : longSheetTests rule s ≡ (longReadTests s orElse longLengthsOf rule s)
+  pub by-reader : longSheetTests rule s ≡ (longReadTests s orElse longLengthsOf rule s)
   by-reader = grouped (longFormTests s) (matrixTests (strainsOf s) (distancesOf s)) (test 8 (strainsDiffer s)) (postedTests (strainsOf s) (distancesOf s) (parentsOf s))
       (test 11 (longEdgesDiffer s)) (test 12 (levelsOut s)) (longLengthsOf rule s)
 
