@@ -17,10 +17,10 @@ use Rattle.exact.specs.Sum.{sum, pairs}
 use Rattle.exact.specs.Table.{table, entryOf}
 use Rattle.exact.specs.Fits.{Fits63}
 use Rattle.exact.specs.Nearest.{nearest}
-use Rattle.exact.specs.LeastSquares.{sq, sumF, sumR}
+use Rattle.exact.specs.LeastSquares.{sq, hops, sumF, sumR}
 use Rattle.exact.proofs.Order.{≤-trans, nn-pos}
 use Rattle.exact.proofs.Sign.{back}
-use Rattle.exact.proofs.Sum.{sum-cong, pairs-sums, S-cong}
+use Rattle.exact.proofs.Sum.{sum-cong, pairs-sums, S-cong, S-sq}
 use Rattle.exact.proofs.Fill.{length-table, getD-table}
 use Rattle.exact.proofs.LeastSquares.{path-cong}
 use Rattle.verdict.specs.declared.Rule.{Rule}
@@ -33,8 +33,8 @@ use Rattle.mean.specs.declared.Mean.the-variants.{None, Over}
 use Rattle.mean.specs.Mean.{times, meanOf}
 use Rattle.tree_theory.specs.Limits.{maxEdges}
 use Rattle.tree_theory.specs.EdgeTable.{EdgeTable}
-use Rattle.fit_theory.specs.Quantities.{partsIn, roundedOf, treeLength, fOf, rOf}
-use Rattle.fit_theory.proofs.Demand3.{least, r-range}
+use Rattle.fit_theory.specs.Quantities.{partsIn, roundedOf, treeLength, fOf, rOf, hOf}
+use Rattle.fit_theory.proofs.Demand3.{least, r-range, h-high}
 use Rattle.paths.specs.Standing.{Standing}
 use Rattle.pairs.specs.Ready.{Ready}
 use Rattle.long_digits.specs.Digits.{base}
@@ -141,6 +141,9 @@ module _ (rule : Rule) (N : ℕ) (ds ps Ds : List ℕ) (ns : List ℤ) (s : Long
 
   pub total-same : sum K (longNumerator L K ns) ≡ treeLength n
   total-same = sum-cong K (λ v l. sym (n-is v l)) ∙ ap (λ (k : ℕ). sum k (entryOf n)) (sym (length-table K (longNumerator L K ns)))
+
+  pub h-fits : Fits63 (hOf N ds ps)
+  h-fits = record { low = S-sq (pairs-sums N) (hops K (partsIn ds ps)); high = ≤-trans (h-high K (s .lengths .few) (partsIn ds ps) N (s .fitted .posted .matrix .few)) (record { le = tt }) }
 
   -- the rounded lengths
   module _ {ms : List ℤ} (t : EdgeTable K (λ v. nearest D (longNumerator L K ns v)) ms) (near : (v : ℕ) → v < K → natAbs (entryOf ms v) ≤ 100000000001) where
