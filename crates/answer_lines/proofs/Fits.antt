@@ -9,20 +9,20 @@ use Rattle.exact.specs.Table.{entryOf}
 use Rattle.verdict.specs.declared.Rule.{Rule}
 use Rattle.mean.specs.declared.Mean.{Mean}
 use Rattle.fit_theory.specs.Quantities.{treeLength, fOf, rOf, hOf, roundedOf}
-use Rattle.lines.specs.Lines.{line, edgeWord, edgeLines, fitText, fitWord, lengthWord, squareWord, meanLine}
+use Rattle.lines.specs.Lines.{line, edgeWord, edgeLines, fitText, fitWord, lengthWord, squareWord, meanLine, fitTextBy, edgeLinesBy}
 use Rattle.reporting.specs.declared.FitReport.{FitReport}
 use Rattle.reporting.specs.Answers.{Reported}
 use Rattle.answer_lines.specs.Texts.{fitOf}
 
 -- rows that agree at the edges have the same lines
 pub rows-cong : (K : ℕ) (row row′ : ℕ → List ℤ) → ((v : ℕ) → v < K → row v ≡ row′ v) → edgeLines K row ≡ edgeLines K row′
-unfolding edgeLines
+unfolding edgeLinesBy
 rows-cong zero row row′ f = refl
 rows-cong (suc K) row row′ f = ap₂ _++_ (rows-cong K row row′ (λ v l. f v (omega arith))) (ap (λ (r : List ℤ). line edgeWord (pos K ∷ r)) (f K (omega arith)))
 
 fit-cong : (rule : Rule) (N K D : ℕ) (n n′ m m′ : ℕ → ℤ) (total F R H : ℤ) (mean : Mean) → ((v : ℕ) → v < K → n v ≡ n′ v) → ((v : ℕ) → v < K → m v ≡ m′ v)
     → fitText rule N K D n m total F R H mean ≡ fitText rule N K D n′ m′ total F R H mean
-unfolding fitText
+unfolding fitTextBy
 fit-cong rule N K D n n′ m m′ total F R H mean f g =
     ap (λ (e : List ℕ). line (fitWord rule) (pos N ∷ pos K ∷ pos D ∷ []) ++ (e ++ (line lengthWord (total ∷ []) ++ (line squareWord (F ∷ R ∷ H ∷ []) ++ meanLine F mean))))
     (rows-cong K (λ v. n v ∷ m v ∷ []) (λ v. n′ v ∷ m′ v ∷ []) (λ v l. ap₂ (λ (a b : ℤ). a ∷ b ∷ []) (f v l) (g v l)))

@@ -31,7 +31,7 @@ correct-well (matrixTree N ds ps) c s e = corrected-posted N ps ds c e s
 
 propose-stands : (p : Posting) (D : ℕ) (ns : List ℤ) → PostedWell p → ifPosted p (λ N ds ps. proposalTests Plain N ds ps D ns) ≡ pass → StandsOn p (lengths D ns)
 propose-stands nothing D ns s e = refuses 21 Nowhere e
-propose-stands (matrixTree N ds ps) D ns s e = let t = proposal-stands Plain N ds ps D ns s e in (t, least Plain N ds ps D ns t)
+propose-stands (matrixTree N ds ps) D ns s e = let t = proposal-stands Plain N ds ps D ns s e in (t, least Plain N ds ps D ns (t .fitted))
 
 put-sound : (d : Desk) (b : ℕ) (t : Table) → Sound d → StandsOn (d .posting) t → Sound (put b t d)
 put-sound d b t s h = record { posting = s .posting; tables = λ x. at x (eqb x b) }

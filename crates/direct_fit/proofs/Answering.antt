@@ -137,7 +137,6 @@ module _ (N : ℕ) (ds ps : List ℕ) (shaped : Shaped N ds ps) (passed : direct
       pub ready-rounded : (cs : List ℕ) → Standing N K ps cs → Ready N K 1000 ds ps cs ms
       ready-rounded cs s = record {
         standing = s;
-        one = omega arith;
         most = omega arith;
         room = omega (arith, shaped .matrix .whole);
         near = known-near (shaped .matrix);

@@ -11,6 +11,9 @@ unfoldable pub number : ℕ → List ℕ → ℕ → ℕ
 number zero s at = 0
 number (suc width) s at = getD s at 0 + 256 * number width s (suc at)
 
--- a number of 64 bits as two's complement
+-- a number of so many bits as two's complement, and one of 64
+abbrev pub twosOf : ℕ → ℕ → ℤ
+twosOf bits x = cond (ltb x (2 ^ (bits - 1))) (pos x) (negsuc (2 ^ bits - 1 - x))
+
 abbrev pub twos : ℕ → ℤ
-twos x = cond (ltb x (2 ^ 63)) (pos x) (negsuc (2 ^ 64 - 1 - x))
+twos x = twosOf 64 x

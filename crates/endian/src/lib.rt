@@ -2,7 +2,7 @@
 ghost use mathlib.Core.Path.{_≡_};
 ghost use Prim.Native.Nat.{_+_, _<_, _≤_};
 ghost use lib.ListN.{length};
-ghost use Rattle.endian.specs.Bytes.{number, twos};
+ghost use Rattle.endian.specs.Bytes.{number, twosOf, twos};
 
 // A byte as a wider number.
 fn wide(x: u8) -> u16
@@ -50,4 +50,17 @@ pub fn i64_at(s: &[u8], at: usize) -> i64
     ensures { λ r. ⌜ r ≡ twos (number 8 (now (s .entry)) at) ⌝ }
 {
     signed(u64_at(s, at))
+}
+
+// The number below or above zero of the four bytes from `at` on.
+pub fn i32_at(s: &[u8], at: usize) -> i64
+    requires { ⌜ at + 4 ≤ length (now s) ⌝ }
+    ensures { λ r. ⌜ r ≡ twosOf 32 (number 4 (now (s .entry)) at) ⌝ }
+{
+    let x = u32_at(s, at);
+    if x < 2147483648 {
+        x as i64
+    } else {
+        -1 - ((u32::MAX - x) as i64)
+    }
 }

@@ -18,7 +18,7 @@ use Rattle.verdict.specs.Table.{first, some, count}
 use Rattle.matrix.specs.Place.{place, known}
 use Rattle.tree_theory.specs.Chain.{lift, below, parts}
 use Rattle.fit_theory.specs.Figures.{same, sameList, benchHolds, agreeAt, Tight}
-use Rattle.fit_theory.specs.Stands.{Stands, OneFit, scaled}
+use Rattle.fit_theory.specs.Stands.{Fitted, OneFit, scaled}
 
 pub bench : benchHolds ≡ true
 unfolding sum pairs ind tableFrom path hops nearest some first count place known lift below parts
@@ -36,7 +36,7 @@ same-lists : (xs : List ℤ) → sameList xs xs ≡ true
 same-lists [] = refl
 same-lists (x ∷ xs) = rw (same-self x, same-lists xs)
 
-pub agrees : (rule : Rule) (N : ℕ) (ds ps : List ℕ) (D : ℕ) (ns : List ℤ) (D′ : ℕ) (ns′ : List ℤ) → OneFit rule N ds ps D ns → Stands rule N ds ps D′ ns′ → agreeAt (length ps) D ns D′ ns′ ≡ true
+pub agrees : (rule : Rule) (N : ℕ) (ds ps : List ℕ) (D : ℕ) (ns : List ℤ) (D′ : ℕ) (ns′ : List ℤ) → OneFit rule N ds ps D ns → Fitted rule N ds ps D′ ns′ → agreeAt (length ps) D ns D′ ns′ ≡ true
 agrees rule N ds ps D ns D′ ns′ one s =
     ap (λ (l : List ℤ). sameList (table (length ps) (scaled D′ ns)) l) (sym (table-cong (pos 0) (length ps) (scaled D′ ns) (scaled D ns′) (one .agree D′ ns′ s)))
     ∙ same-lists (table (length ps) (scaled D′ ns))

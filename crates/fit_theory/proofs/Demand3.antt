@@ -17,7 +17,7 @@ use Rattle.exact.specs.Sum.{pairs, sweep}
 use Rattle.exact.specs.LeastSquares.{sq, path, hops, remainder, sumF, sumX, sumR, sumH, Near, Minimum, Rounding}
 use Rattle.exact.specs.Nearest.{nearest}
 use Rattle.exact.proofs.Quote.{by-ring, quote}
-use Rattle.exact.proofs.Order.{nn+, nn*, nn-pos, nn-sq, nn-sub, le-by, pos-≤, is-<, *-cancel, ≤-trans}
+use Rattle.exact.proofs.Order.{nn+, nn*, nn-pos, nn-sq, nn-sub, le-by, pos-≤, is-<, *-cancel, *-mono, ≤-trans}
 use Rattle.exact.proofs.Sum.{pairs-sums, S-sq}
 use Rattle.exact.proofs.Sign.{natAbs-sub, within→abs, abs→within}
 use Rattle.exact.proofs.LeastSquares.{Tops, minimum, rounding, tops, minimum⁰, rounding⁰, tops⁰, paths-by}
@@ -27,9 +27,9 @@ use Rattle.matrix.specs.Place.{distance}
 use Rattle.exact.specs.Table.{entryOf}
 use Rattle.verdict.specs.declared.Rule.{Rule}
 use Rattle.verdict.specs.declared.Rule.the-variants.{Plain, Drawable}
-use Rattle.fit_theory.specs.Quantities.{partsOf, partsIn, roundedOf, rOf}
-use Rattle.fit_theory.specs.Stands.{FitBy, Against, Stands, Least}
-use Rattle.fit_theory.proofs.Ranges.{Bounds, bounds, mul-abs, path-abs, hops-sweep}
+use Rattle.fit_theory.specs.Quantities.{partsOf, partsIn, roundedOf, fOf, rOf}
+use Rattle.fit_theory.specs.Stands.{FitBy, Against, Fitted, Stands, Least}
+use Rattle.fit_theory.proofs.Ranges.{distance-near, mul-abs, path-abs, hops-sweep}
 
 -- ---- over plain numbers
 -- a number from 0 to b
@@ -73,49 +73,6 @@ module _ (K : ℕ) (d : ℕ × ℕ → ℤ) (few : K ≤ 125) (near : (p : ℕ �
       X : ℤ
       X = sumX (pairs N) K parts d (pos 1) (λ _. pos 0)
 
--- ---- over any incidence
-module _ {K : ℕ} {d : ℕ × ℕ → ℤ} {D : ℕ} {n : ℕ → ℤ} (w : Bounds K d D n) (parts : ℕ → ℕ × ℕ → Bool) (N : ℕ) (small : N ≤ 64)
-    {Compared : ℤ → (ℕ → ℤ) → Type 0} (zeros : Compared (pos 1) (λ _. pos 0))
-    (fit : Minimum (pairs N) K parts d (pos D) n Compared) (close : Rounding (pairs N) K parts d (pos D) n (λ v. nearest D (n v)) Compared) where
-  some-D : pos 0 <ᶻ pos D
-  some-D = is-< (pos-≤ (w .one))
-
-  -- D·F is a sum of squares
-  pub f-low : pos 0 ≤ᶻ sumF (pairs N) K parts d (pos D) n
-  f-low = *-cancel some-D (subst₂ _≤ᶻ_ (sym (*ℤ-zero (pos D))) (sym (fit .squares)) (S-sq (pairs-sums N) (remainder K parts d (pos D) n)))
-
-  pub f-high : sumF (pairs N) K parts d (pos D) n ≤ᶻ pos 5040000000000000000
-  f-high = ≤-trans (cancel-D (pos D) F X some-D (fit .least (pos 1) (λ _. pos 0) zeros))
-      (abs→within 5040000000000000000 (pos D *ℤ X) (mul-abs (pos D) X 1000000 5040000000000 (w .most) (zero-X K d (w .few) (w .distances) parts N small)) .high)
-    where
-      F : ℤ
-      F = sumF (pairs N) K parts d (pos D) n
-
-      X : ℤ
-      X = sumX (pairs N) K parts d (pos 1) (λ _. pos 0)
-
-  -- a term of R
-  abbrev square : ℕ × ℕ → ℤ
-  square p = sq (remainder K parts d (pos 1000) (λ v. nearest D (n v)) p)
-
-  square-low : (p : ℕ × ℕ) → pos 0 ≤ᶻ square p
-  square-low p = nn-sq (remainder K parts d (pos 1000) (λ v. nearest D (n v)) p)
-
-  pub r-low : pos 0 ≤ᶻ sumR (pairs N) K parts d (λ v. nearest D (n v))
-  r-low = S-sq (pairs-sums N) (remainder K parts d (pos 1000) (λ v. nearest D (n v)))
-
-  pub r-high : sumR (pairs N) K parts d (λ v. nearest D (n v)) ≤ᶻ pos 5040000000007875000
-  r-high = close-high K d (w .few) (w .distances) parts N small Compared zeros (pos D) n (λ v. nearest D (n v)) close
-
-  pub r-sweep : (j i : ℕ) → j < N → i ≤ j
-      → natAbs (sweep (λ p. sq (remainder K parts d (pos 1000) (λ v. nearest D (n v)) p)) j i) ≤ 5040000000007875000
-  r-sweep j i l k = between 5040000000007875000 (sweep square j i) (sweep-nn N square (λ p _ _. square-low p) j i l k)
-      (≤-trans (sweep-le N square (λ p _ _. square-low p) j i l k) r-high)
-
-  pub r-term : (i j : ℕ) → i < j → j < N → natAbs (sq (remainder K parts d (pos 1000) (λ v. nearest D (n v)) (i, j))) ≤ 5040000000007875000
-  r-term i j k l = between 5040000000007875000 (square (i, j)) (square-low (i, j))
-      (≤-trans (term-le N square (λ p _ _. square-low p) i j k l) r-high)
-
 -- ---- a fit under each rule
 zeros-by : (rule : Rule) (K : ℕ) → Against rule K (pos 1) (λ _. pos 0)
 zeros-by Plain K = record {}
@@ -137,34 +94,55 @@ rounding-by : (rule : Rule) (N : ℕ) (ds ps : List ℕ) (D : ℕ) (ns : List �
 rounding-by Plain N ds ps D ns h near fit = rounding (pairs-sums N) (length ps) (partsIn ds ps) (distance ds) (pos D) (entryOf ns) fit (roundedOf D ns) h near
 rounding-by Drawable N ds ps D ns h near fit = rounding⁰ (pairs-sums N) (length ps) (partsIn ds ps) (distance ds) (pos D) (entryOf ns) h fit (roundedOf D ns) near
 
--- ---- what stands
-module _ (rule : Rule) (N : ℕ) (ds ps : List ℕ) (D : ℕ) (ns : List ℤ) (s : Stands rule N ds ps D ns) where
-  limits : Bounds (length ps) (distance ds) D (entryOf ns)
-  limits = bounds (s .matrix) (s .lengths)
+-- ---- a fit, over any denominator
+module _ (rule : Rule) (N : ℕ) (ds ps : List ℕ) (D : ℕ) (ns : List ℤ) (s : Fitted rule N ds ps D ns) where
+  few : length ps ≤ 125
+  few = omega (arith, s .posted .tree .few, s .posted .tree .most)
 
-  D-some : pos 0 <ᶻ pos D
-  D-some = is-< (pos-≤ (limits .one))
+  pub some-D : pos 0 <ᶻ pos D
+  some-D = is-< (pos-≤ (s .one))
 
   near : Near (length ps) (pos D) (entryOf ns) (roundedOf D ns)
-  near v _ = nearest-near D (entryOf ns v) (limits .one)
+  near v _ = nearest-near D (entryOf ns v) (s .one)
 
   zeros : Against rule (length ps) (pos 1) (λ _. pos 0)
   zeros = zeros-by rule (length ps)
 
   pub is-minimum : Minimum (pairs N) (length ps) (partsIn ds ps) (distance ds) (pos D) (entryOf ns) (Against rule (length ps))
-  is-minimum = minimum-by rule N ds ps D ns D-some (s .fit)
+  is-minimum = minimum-by rule N ds ps D ns some-D (s .fit)
 
   is-rounding : Rounding (pairs N) (length ps) (partsIn ds ps) (distance ds) (pos D) (entryOf ns) (roundedOf D ns) (Against rule (length ps))
-  is-rounding = rounding-by rule N ds ps D ns D-some near (s .fit)
+  is-rounding = rounding-by rule N ds ps D ns some-D near (s .fit)
+
+  -- the sum of d²
+  X : ℤ
+  X = sumX (pairs N) (length ps) (partsIn ds ps) (distance ds) (pos 1) (λ _. pos 0)
+
+  -- D·F is a sum of squares
+  low : pos 0 ≤ᶻ fOf N ds ps D ns
+  low = *-cancel some-D (subst₂ _≤ᶻ_ (sym (*ℤ-zero (pos D))) (sym (is-minimum .squares)) (S-sq (pairs-sums N) (remainder (length ps) (partsIn ds ps) (distance ds) (pos D) (entryOf ns))))
+
+  high : fOf N ds ps D ns ≤ᶻ pos D *ℤ pos 5040000000000
+  unfolding X
+  high = ≤-trans (cancel-D (pos D) (fOf N ds ps D ns) X some-D (is-minimum .least (pos 1) (λ _. pos 0) zeros))
+      (*-mono (nn-pos D) (abs→within 5040000000000 X (zero-X (length ps) (distance ds) few (distance-near (s .posted .matrix)) (partsIn ds ps) N (s .posted .matrix .few)) .high))
 
   pub least : Least rule N ds ps D ns
   least = record {
     minimum = is-minimum;
     rounding = is-rounding;
     paths = paths-by (pairs-sums N) (length ps) (partsOf ps) (distance ds) (pos D) (entryOf ns) (roundedOf D ns) near;
-    f-low = f-low limits (partsIn ds ps) N (s .matrix .few) zeros is-minimum is-rounding;
-    f-high = f-high limits (partsIn ds ps) N (s .matrix .few) zeros is-minimum is-rounding;
+    f-low = low;
+    f-high = high;
   }
 
   pub r-range : (pos 0 ≤ᶻ rOf N ds ps D ns) × (rOf N ds ps D ns ≤ᶻ pos 5040000000007875000)
-  r-range = (r-low limits (partsIn ds ps) N (s .matrix .few) zeros is-minimum is-rounding, r-high limits (partsIn ds ps) N (s .matrix .few) zeros is-minimum is-rounding)
+  r-range = (
+    S-sq (pairs-sums N) (remainder (length ps) (partsIn ds ps) (distance ds) (pos 1000) (roundedOf D ns)),
+    close-high (length ps) (distance ds) few (distance-near (s .posted .matrix)) (partsIn ds ps) N (s .posted .matrix .few) (Against rule (length ps)) zeros (pos D) (entryOf ns) (roundedOf D ns) is-rounding,
+  )
+
+-- of what stands: F is at most 5,040,000,000,000,000,000
+pub f-range : (rule : Rule) (N : ℕ) (ds ps : List ℕ) (D : ℕ) (ns : List ℤ) → Stands rule N ds ps D ns → fOf N ds ps D ns ≤ᶻ pos 5040000000000000000
+f-range rule N ds ps D ns s = ≤-trans (least rule N ds ps D ns (s .fitted) .f-high)
+    (abs→within 5040000000000000000 (pos D *ℤ pos 5040000000000) (mul-abs (pos D) (pos 5040000000000) 1000000 5040000000000 (s .lengths .most) (omega arith)) .high)

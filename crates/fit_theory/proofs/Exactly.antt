@@ -118,8 +118,8 @@ module _ (N : ℕ) (ds ps : List ℕ) (D : ℕ) (ns : List ℤ) (whole : length 
 module _ (rule : Rule) (N : ℕ) (ds ps : List ℕ) (D : ℕ) (ns : List ℤ) where
   pub stands→ : Stands rule N ds ps D ns → judgeTests rule N ds ps D ns ≡ pass
   stands→ s =
-      let (e1, e2) = fit→ N ds ps D ns (s .lengths .whole) rule (s .fit) in
-      pass-orElse (posted→ N ds ps (record { matrix = s .matrix; tree = s .tree; seen = s .seen }))
+      let (e1, e2) = fit→ N ds ps D ns (s .lengths .whole) rule (s .fitted .fit) in
+      pass-orElse (posted→ N ds ps (s .fitted .posted))
       (pass-orElse (lengths.proper→ (length ps) D ns (s .lengths)) (pass-orElse e1 e2))
 
   -- what passes beside a matrix and a tree that pass stands
@@ -128,13 +128,7 @@ module _ (rule : Rule) (N : ℕ) (ds ps : List ℕ) (D : ℕ) (ns : List ℤ) wh
       let (e1, r) = orElse-pass (lengthsTests (length ps) D ns) (signTests rule ns orElse sumsTests rule N ds ps D ns) e in
       let (e2, e3) = orElse-pass (signTests rule ns) (sumsTests rule N ds ps D ns) r in
       let l = lengths.→proper (length ps) D ns e1 in
-      record {
-        matrix = s .matrix;
-        tree = s .tree;
-        seen = s .seen;
-        lengths = l;
-        fit = →fit N ds ps D ns (l .whole) rule e2 e3;
-      }
+      record { lengths = l; fitted = record { posted = s; whole = l .whole; one = l .one; fit = →fit N ds ps D ns (l .whole) rule e2 e3 } }
 
   pub →stands : judgeTests rule N ds ps D ns ≡ pass → Stands rule N ds ps D ns
   →stands e = let (e1, e2) = orElse-pass (postedTests N ds ps) (proposalTests rule N ds ps D ns) e in proposal-stands (→posted N ds ps e1) e2

@@ -18,11 +18,13 @@ use Rattle.fit_theory.proofs.Exactly.{stands→, →stands}
 module _ (N : ℕ) (ds ps : List ℕ) (D : ℕ) (ns : List ℤ) where
   pub drawable : ((v : ℕ) → v < length ps → pos 0 ≤ᶻ entryOf ns v) → Stands Plain N ds ps D ns → Stands Drawable N ds ps D ns
   drawable up s = record {
-    matrix = s .matrix;
-    tree = s .tree;
-    seen = s .seen;
     lengths = s .lengths;
-    fit = record { entries = up; positive = λ v l _. s .fit v l; zero = λ v l _. ≤-of-≡ (s .fit v l) };
+    fitted = record {
+      posted = s .fitted .posted;
+      whole = s .fitted .whole;
+      one = s .fitted .one;
+      fit = record { entries = up; positive = λ v l _. s .fitted .fit v l; zero = λ v l _. ≤-of-≡ (s .fitted .fit v l) };
+    };
   }
 
   pub drawable-too : ((v : ℕ) → v < length ps → pos 0 ≤ᶻ entryOf ns v) → judgeTests Plain N ds ps D ns ≡ pass → judgeTests Drawable N ds ps D ns ≡ pass
@@ -30,9 +32,6 @@ module _ (N : ℕ) (ds ps : List ℕ) (D : ℕ) (ns : List ℤ) where
 
   pub all-positive : ((v : ℕ) → v < length ps → pos 0 <ᶻ entryOf ns v) → Stands Drawable N ds ps D ns → Stands Plain N ds ps D ns
   all-positive up s = record {
-    matrix = s .matrix;
-    tree = s .tree;
-    seen = s .seen;
     lengths = s .lengths;
-    fit = λ v l. s .fit .positive v l (up v l);
+    fitted = record { posted = s .fitted .posted; whole = s .fitted .whole; one = s .fitted .one; fit = λ v l. s .fitted .fit .positive v l (up v l) };
   }

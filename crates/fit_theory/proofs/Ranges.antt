@@ -1,6 +1,6 @@
 -- How large the quantities of a proposal can become, for any incidence of at most 125 edges and at most 64 strains.
 -- `path-range`, `scaled-range`, `remainder-range`, `product-range`: of one pair, for the edges' sums and F.
--- `rounded-range`, `rounded-path-range`, `rounded-remainder-range`: of m, for R.
+-- `rounded-range`: of m.
 -- `hops-low`, `hops-high`, `hops-sweep`: of the number of edges of a path, and of the running sum of squares that ends as H.
 -- `mul-abs`, `path-abs`: of a product, and of a path over any table.
 -- `distance-near`, `bounds`: what the checks of a matrix and of lengths say of their entries.
@@ -30,7 +30,6 @@ use Rattle.exact.specs.Table.{entryOf}
 -- what the limits of RULES say of a proposal with K edges
 pub record Bounds (K : ℕ) (d : ℕ × ℕ → ℤ) (D : ℕ) (n : ℕ → ℤ) : Type 0 where
   pub few : K ≤ 125
-  pub one : 1 ≤ D
   pub most : D ≤ 1000000
   pub distances : (p : ℕ × ℕ) → natAbs (d p) ≤ 50000
   pub numerators : (v : ℕ) → v < K → natAbs (n v) ≤ 100000000000
@@ -42,7 +41,6 @@ distance-near m p = known-near m (place (p .0) (p .1))
 pub bounds : {N : ℕ} {ds : List ℕ} {K D : ℕ} {ns : List ℤ} → matrix.Proper N ds → lengths.Proper K D ns → Bounds K (distance ds) D (entryOf ns)
 bounds m l = record {
   few = l .few;
-  one = l .one;
   most = l .most;
   distances = distance-near m;
   numerators = λ v h. l .near v (omega (arith, l .whole));
@@ -77,19 +75,8 @@ module _ {K : ℕ} {d : ℕ × ℕ → ℤ} {D : ℕ} {n : ℕ → ℤ} (w : Bou
   product-range p = mul-abs (d p) (remainder K parts d (pos D) n p) 50000 12550000000000 (w .distances p) (remainder-range p)
 
   -- ---- the lengths in thousandths
-  pub rounded-range : (v : ℕ) → v < K → natAbs (nearest D (n v)) ≤ 100000000000000
-  rounded-range v l = omega (arith, nearest-bound D (n v) (w .one), w .numerators v l)
-
-  pub rounded-path-range : (p : ℕ × ℕ) → natAbs (path K parts (λ v. nearest D (n v)) p) ≤ 12500000000000000
-  rounded-path-range p = path-abs K parts (λ v. nearest D (n v)) 100000000000000 (w .few) rounded-range p
-
-  pub rounded-remainder-range : (p : ℕ × ℕ) → natAbs (remainder K parts d (pos 1000) (λ v. nearest D (n v)) p) ≤ 12550000000000000
-  rounded-remainder-range p = omega (
-    arith,
-    natAbs-sub (pos 1000 *ℤ d p) (path K parts (λ v. nearest D (n v)) p),
-    mul-abs (pos 1000) (d p) 1000 50000 (omega arith) (w .distances p),
-    rounded-path-range p,
-  )
+  pub rounded-range : 1 ≤ D → (v : ℕ) → v < K → natAbs (nearest D (n v)) ≤ 100000000000000
+  rounded-range one v l = omega (arith, nearest-bound D (n v) one, w .numerators v l)
 
 -- ---- the number of edges of a path
 module _ (K : ℕ) (parts : ℕ → ℕ × ℕ → Bool) where

@@ -33,14 +33,14 @@ yes-less {a} {b} e = ltZ-yes {a = a} {b = b} (subst T (sym e) tt)
 less-yes : {a b : ℤ} → a <ᶻ b → ltZ a b ≡ true
 less-yes {a} {b} h = is-true (ltZ a b) (h .lt)
 
-less-no : {a b : ℤ} → b ≤ᶻ a → ltZ a b ≡ false
+pub less-no : {a b : ℤ} → b ≤ᶻ a → ltZ a b ≡ false
 less-no {a} {b} h = go (ltZ a b) refl
   where
     go : (t : Bool) → ltZ a b ≡ t → t ≡ false
     go true e = clashℤ (yes-less e) h
     go false e = refl
 
-no-less : {a b : ℤ} → ltZ a b ≡ false → b ≤ᶻ a
+pub no-less : {a b : ℤ} → ltZ a b ≡ false → b ≤ᶻ a
 no-less {a} {b} e = ltZ-no {a = a} {b = b} (subst (λ (t : Bool). T (not t)) (sym e) tt)
 
 and-yes : (a b : Bool) → (a && b) ≡ true → (a ≡ true) × (b ≡ true)

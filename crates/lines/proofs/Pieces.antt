@@ -14,7 +14,7 @@ use Rattle.mean.specs.declared.Mean.{Mean}
 use Rattle.writing.specs.Text.{decimal, signed, Wrote}
 use Rattle.writing.proofs.Decimals.{decimal-length, signed-length}
 use Rattle.writing.proofs.Writing.{wrote-none, wrote-then, wrote-length}
-use Rattle.lines.specs.Lines.{fields, meanLine, placeFields, edgeWord, edgeLines}
+use Rattle.lines.specs.Lines.{fields, meanLine, placeFields, edgeWord, edgeLines, fieldsBy, edgeLinesBy}
 use Rattle.lines.proofs.Sizes.{fields-length}
 
 -- a piece, and what is written behind it by one who knows that there is room
@@ -26,12 +26,12 @@ and-then {b} {c} {d} {at} {m} {k} {s} {t} room p q =
     wrote-then own p (q (omega (arith, p .place, wrote-length own p)))
 
 pub fields-append : (a b : List ℤ) → fields (a ++ b) ≡ fields a ++ fields b
-unfolding fields
+unfolding fieldsBy
 fields-append [] b = refl
 fields-append (z ∷ a) b = ap (λ l. 32 ∷ (signed z ++ l)) (fields-append a b) ∙ ap (λ l. 32 ∷ l) (sym (append-assoc (signed z) (fields a) (fields b)))
 
 pub fields-one : (z : ℤ) → fields (z ∷ []) ≡ 32 ∷ signed z
-unfolding fields
+unfolding fieldsBy
 fields-one z = ap (λ l. 32 ∷ l) (append-nil (signed z))
 
 -- a word, a space and a number
@@ -59,5 +59,5 @@ fields-more zs k h = ap fields (take-suc zs k (pos 0) h) ∙ fields-append (take
 
 -- no edge's line
 pub edges-none : (b : List ℕ) (at : ℕ) (row : ℕ → List ℤ) → Wrote b b at (edgeLines 0 row) at
-unfolding edgeLines
+unfolding edgeLinesBy
 edges-none b at row = wrote-none b at

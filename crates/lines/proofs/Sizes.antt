@@ -15,11 +15,11 @@ use Rattle.tree_theory.specs.Limits.{maxEdges}
 use Rattle.writing.specs.Text.{signed, Wrote}
 use Rattle.writing.proofs.Writing.{wrote-then}
 use Rattle.writing.proofs.Decimals.{signed-length}
-use Rattle.lines.specs.Lines.{end, fields, line, edgeWord, edgeLines, placeFields, refusedLine, fitWord, lengthWord, squareWord, meanLine, resolvedWord, fitText, resolvedText}
+use Rattle.lines.specs.Lines.{end, fields, line, edgeWord, edgeLines, placeFields, refusedLine, fitWord, lengthWord, squareWord, meanLine, resolvedWord, fitText, resolvedText, fieldsBy, fitTextBy, edgeLinesBy}
 use Rattle.lines.specs.Page.{pageSize, widest}
 
 pub fields-length : (zs : List ℤ) → length (fields zs) ≤ 22 * length zs
-unfolding fields
+unfolding fieldsBy
 fields-length [] = omega arith
 fields-length (z ∷ zs) = simp length-append (omega (arith, signed-length z, fields-length zs))
 
@@ -27,7 +27,7 @@ pub line-length : (word : List ℕ) (zs : List ℤ) → length (line word zs) �
 line-length word zs = simp length-append (omega (arith, fields-length zs))
 
 pub edges-length : (k : ℕ) (row : ℕ → List ℤ) → ((v : ℕ) → length (row v) ≤ 3) → length (edgeLines k row) ≤ widest * k
-unfolding edgeLines
+unfolding edgeLinesBy
 edges-length zero row h = omega arith
 edges-length (suc k) row h = simp length-append (omega (arith, edges-length k row h, line-length edgeWord (pos k ∷ row k), h k, fields-length (pos k ∷ row k)))
 
@@ -38,7 +38,7 @@ edges-end b c at i v row h w = omega (arith, w .place, edges-length v row h)
 -- one edge's line more
 pub edges-more : (b : List ℕ) (at : ℕ) (row : ℕ → List ℤ) → ((u : ℕ) → length (row u) ≤ 3) → (k v : ℕ) → v < k → at + widest * k ≤ length b
     → {c d : List ℕ} {i j : ℕ} → Wrote b c at (edgeLines v row) i → Wrote c d i (line edgeWord (pos v ∷ row v)) j → Wrote b d at (edgeLines (v + 1) row) j
-unfolding edgeLines
+unfolding edgeLinesBy
 edges-more b at row h k v l room p q = rw (add-one v) (wrote-then (omega (arith, edges-length v row h)) p q)
 
 pub place-length : (p : Place) → length (placeFields p) ≤ 51
@@ -64,7 +64,7 @@ word-length Plain = omega arith
 word-length Drawable = omega arith
 
 pub text-length : (rule : Rule) (N K D : ℕ) (n m : ℕ → ℤ) (t F R H : ℤ) (mean : Mean) → K ≤ maxEdges → length (fitText rule N K D n m t F R H mean) ≤ pageSize
-unfolding fitText
+unfolding fitTextBy
 text-length rule N K D n m t F R H mean small = simp length-append (omega (
   arith,
   word-length rule,

@@ -15,14 +15,21 @@ use Rattle.writing.specs.Text.{signed}
 abbrev pub end : List ℕ
 end = 10 ∷ []
 
--- numbers, a space before each
-unfoldable pub fields : List ℤ → List ℕ
-fields [] = []
-fields (z ∷ zs) = 32 ∷ (signed z ++ fields zs)
+-- numbers, a space before each, as `show` writes a number
+unfoldable pub fieldsBy : (ℤ → List ℕ) → List ℤ → List ℕ
+fieldsBy show [] = []
+fieldsBy show (z ∷ zs) = 32 ∷ (show z ++ fieldsBy show zs)
 
 -- a line
+abbrev pub lineBy : (ℤ → List ℕ) → List ℕ → List ℤ → List ℕ
+lineBy show word zs = word ++ (fieldsBy show zs ++ end)
+
+-- of numbers of 64 bits
+abbrev pub fields : List ℤ → List ℕ
+fields = fieldsBy signed
+
 abbrev pub line : List ℕ → List ℤ → List ℕ
-line word zs = word ++ (fields zs ++ end)
+line = lineBy signed
 
 -- "refused", "fit" and "fit0" by the rule, "byte", "vertex", "edge", "length", "square", "mean", "none", "resolved"
 abbrev pub refusedWord : List ℕ
@@ -69,24 +76,33 @@ abbrev pub refusedLine : ℕ → Place → List ℕ
 refusedLine k p = refusedWord ++ (fields (pos k ∷ []) ++ (placeFields p ++ end))
 
 -- a line for each of the first K edges: edge, the edge, its row of numbers
-unfoldable pub edgeLines : ℕ → (ℕ → List ℤ) → List ℕ
-edgeLines zero row = []
-edgeLines (suc K) row = edgeLines K row ++ line edgeWord (pos K ∷ row K)
+unfoldable pub edgeLinesBy : (ℤ → List ℕ) → ℕ → (ℕ → List ℤ) → List ℕ
+edgeLinesBy show zero row = []
+edgeLinesBy show (suc K) row = edgeLinesBy show K row ++ lineBy show edgeWord (pos K ∷ row K)
+
+abbrev pub edgeLines : ℕ → (ℕ → List ℤ) → List ℕ
+edgeLines = edgeLinesBy signed
 
 -- the line of the mean square: mean, F and what it is over; mean none where it is over nothing
+abbrev pub meanLineBy : (ℤ → List ℕ) → ℤ → Mean → List ℕ
+meanLineBy show F None = lineBy show (meanWord ++ (32 ∷ noneWord)) []
+meanLineBy show F (Over d) = lineBy show meanWord (F ∷ d ∷ [])
+
 abbrev pub meanLine : ℤ → Mean → List ℕ
-meanLine F None = line (meanWord ++ (32 ∷ noneWord)) []
-meanLine F (Over d) = line meanWord (F ∷ d ∷ [])
+meanLine = meanLineBy signed
 
 -- the whole print of a fit: fit or fit0, N K D; edge, the edge, n, m; length, the numerator of the tree length; square F R H; the line of the
 -- mean square
-unfoldable pub fitText : Rule → ℕ → ℕ → ℕ → (ℕ → ℤ) → (ℕ → ℤ) → ℤ → ℤ → ℤ → ℤ → Mean → List ℕ
-fitText rule N K D n m total F R H mean =
-    line (fitWord rule) (pos N ∷ pos K ∷ pos D ∷ [])
-    ++ (edgeLines K (λ v. n v ∷ m v ∷ [])
-    ++ (line lengthWord (total ∷ [])
-    ++ (line squareWord (F ∷ R ∷ H ∷ [])
-    ++ meanLine F mean)))
+unfoldable pub fitTextBy : (ℤ → List ℕ) → Rule → ℕ → ℕ → ℕ → (ℕ → ℤ) → (ℕ → ℤ) → ℤ → ℤ → ℤ → ℤ → Mean → List ℕ
+fitTextBy show rule N K D n m total F R H mean =
+    lineBy show (fitWord rule) (pos N ∷ pos K ∷ pos D ∷ [])
+    ++ (edgeLinesBy show K (λ v. n v ∷ m v ∷ [])
+    ++ (lineBy show lengthWord (total ∷ [])
+    ++ (lineBy show squareWord (F ∷ R ∷ H ∷ [])
+    ++ meanLineBy show F mean)))
+
+abbrev pub fitText : Rule → ℕ → ℕ → ℕ → (ℕ → ℤ) → (ℕ → ℤ) → ℤ → ℤ → ℤ → ℤ → Mean → List ℕ
+fitText = fitTextBy signed
 
 -- the whole print of a resolved tree: resolved N K; edge, the edge, its numerator and its denominator, m; square R H
 unfoldable pub resolvedText : ℕ → ℕ → (ℕ → ℤ) → (ℕ → ℕ) → (ℕ → ℤ) → ℤ → ℤ → List ℕ

@@ -16,7 +16,7 @@ use Rattle.exact.proofs.Decide.{by-cases}
 use Rattle.mean.specs.declared.Mean.{Mean}
 use Rattle.tree_theory.specs.Limits.{maxEdges}
 use Rattle.writing.specs.Text.{Wrote}
-use Rattle.lines.specs.Lines.{fitText, fitWord}
+use Rattle.lines.specs.Lines.{fitText, fitWord, fitTextBy}
 use Rattle.lines.specs.Page.{pageSize}
 use Rattle.lines.proofs.Sizes.{text-length}
 use Rattle.reading.specs.Holds.{strainsOf, distancesOf, parentsOf, denominatorOf, numeratorsOf}
@@ -55,7 +55,7 @@ module _ (rule : Rule) (s : List ℕ) (x : SheetFit) (a : SheetReport rule s x) 
 
 -- fit has three bytes, and behind the word every byte is the same by both rules
 behind-word : (rule : Rule) (N K D : ℕ) (n m : ℕ → ℤ) (total F R H : ℤ) (mean : Mean) → fitText rule N K D n m total F R H mean ≡ fitWord rule ++ drop 3 (fitText Plain N K D n m total F R H mean)
-unfolding fitText
+unfolding fitTextBy
 behind-word Plain N K D n m total F R H mean = refl
 behind-word Drawable N K D n m total F R H mean = refl
 

@@ -11,7 +11,6 @@ use Rattle.pairs.specs.Ready.{Ready, InRange}
 pub in-bounds : {N K D : ℕ} {ds ps cs : List ℕ} {ns : List ℤ} → Ready N K D ds ps cs ns → InRange K ns → Bounds K (distance ds) D (entryOf ns)
 in-bounds {N} w t = record {
   few = few-edges (w .standing);
-  one = w .one;
   most = w .most;
   distances = λ p. w .near (place (p .0) (p .1));
   numerators = t .near;

@@ -44,7 +44,6 @@ module _ (N : ℕ) (ps cs : List ℕ) (e : cs ≡ table maxVertices (λ v. cond 
   pub ready : {ds : List ℕ} {D : ℕ} {ns : List ℤ} → Posted N ds ps → lengths.Proper (length ps) D ns → Ready N (length ps) D ds ps cs ns
   ready p l = record {
     standing = standing (p .tree);
-    one = l .one;
     most = l .most;
     room = omega (arith, p .matrix .whole);
     near = known-near (p .matrix);

@@ -14,7 +14,6 @@ use Rattle.paths.specs.Standing.{Standing, Small}
 
 pub record Ready (N K D : ℕ) (ds ps cs : List ℕ) (ns : List ℤ) : Type 0 where
   pub standing : Standing N K ps cs
-  pub one : 1 ≤ D
   pub most : D ≤ maxDenominator
   pub room : pairCount N ≤ length ds
   pub near : (k : ℕ) → known (getD ds k 0) ≤ maxDistance

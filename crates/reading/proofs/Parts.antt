@@ -1,6 +1,6 @@
 -- For a caller of `read`: what its parts are, where it accepts. `read-parts` serves a sheet of any count, `read-posted` and `read-lengths`
 -- one with lengths, that is of three records or four.
-use mathlib.Core.Path.{_≡_, refl, sym, ap, ap₂, _∙_}
+use mathlib.Core.Path.{_≡_, sym, ap, _∙_}
 use mathlib.Core.Bool.{Bool, false, cond, not, _&&_}
 use mathlib.Core.List.{List}
 use Prim.Native.Nat.{ℕ, _-_, _<_, _≤_}
@@ -14,19 +14,19 @@ use Rattle.exact.proofs.Fill.{length-table}
 use Rattle.verdict.specs.declared.Verdict.the-variants.{Accepted}
 use Rattle.verdict.specs.Answer.{pass, answerOf, test, _orElse_}
 use Rattle.verdict.proofs.Answers.{orElse-pass, test-pass}
-use Rattle.matrix.specs.Limits.{maxPairs}
-use Rattle.matrix.specs.Place.{pairCount}
-use Rattle.matrix.proofs.Places.{pairs-few}
 use Rattle.tree_theory.specs.Limits.{maxEdges}
 use Rattle.fit_theory.specs.Stands.{Shaped, Posted}
-use Rattle.records.specs.Form.{formTests, startOf}
+use Rattle.records.specs.Form.{formTests}
 use Rattle.records.proofs.Decoding.{front-is, front-length, front-there}
 use Rattle.reading.specs.declared.Sheet.{Sheet}
-use Rattle.reading.specs.Holds.{strainsOf, distanceAt, distancesOf, verticesOf, parentsOf, denominatorOf, edgesOf, numeratorAt, numeratorsOf}
+use Rattle.reading.specs.Holds.{strainsOf, distancesOf, verticesOf, parentsOf, denominatorOf, edgesOf, numeratorAt, numeratorsOf}
 use Rattle.reading.specs.Tests.{edgesDiffer, pairTests, readTests}
 use Rattle.reading.specs.Reads.{Held, SheetAnswer}
-use Rattle.reading.proofs.Formed.{Fronted, fronted, parents-start, parents-count, parents-are}
-use Rattle.reading.proofs.Answered.{pair-shaped, pair-posted, parents-few}
+use Rattle.records.proofs.InTurn.{fewer-pass}
+use Rattle.records.proofs.Formed.{form-records}
+use Rattle.front.specs.declared.Front.{Front}
+use Rattle.front.proofs.Parts as front
+use Rattle.front.proofs.Answered.{pair-shaped, pair-posted, parents-few}
 
 -- the matrix at the front of its array, the parents as a part of the bytes
 pub record Parts (s : List ℕ) (r : Sheet) : Type 0 where
@@ -49,6 +49,10 @@ pub record Lengths (s : List ℕ) (r : Sheet) : Type 0 where
   pub count : r .edges ≡ length (parentsOf s)
   pub few : r .edges ≤ maxEdges
 
+-- what is front's of a sheet
+abbrev front-of : Sheet → Front
+front-of r = record { verdict = r .verdict; strains = r .strains; pairs = r .pairs; distances = r .distances; parents = r .parents; end = r .end }
+
 pub accepted : (count : ℕ) (s : List ℕ) (r : Sheet) → SheetAnswer count s r → r .verdict ≡ Accepted → readTests count s ≡ pass
 accepted count s r a e = sym (a .answer) ∙ ap answerOf e
 
@@ -68,33 +72,25 @@ module _ (count : ℕ) (s : List ℕ) (z : readTests count s ≡ pass) where
   pub shaped : Shaped (strainsOf s) (distancesOf s) (parentsOf s)
   shaped = pair-shaped count s pair-passes
 
-  few-pairs : pairCount (strainsOf s) ≤ maxPairs
-  few-pairs = pairs-few (strainsOf s) (shaped .matrix .few)
-
   parent-count : verticesOf s - 1 ≡ length (parentsOf s)
   parent-count = sym (length-table (verticesOf s - 1) _)
 
   module _ (two : 2 ≤ count) (r : Sheet) (h : Held count s r) where
-    here : Fronted s (startOf s 1) (startOf s 2)
-    here = fronted count s form-passes two (startOf s 1) (startOf s 2) refl refl
-
-    kept : r .distances ≡ padded 0 maxPairs (r .pairs) (distanceAt s)
-    kept = h .distances ∙ ap (λ (k : ℕ). padded 0 maxPairs k (distanceAt s)) (sym (h .pairs))
-
-    edge-count : r .end - r .parents ≡ verticesOf s - 1
-    edge-count = ap₂ _-_ (h .end) (h .parents) ∙ parents-count here
+    of-front : front.Parts s (front-of r)
+    of-front = front.parts count s (fewer-pass s count 2 two (form-records count s form-passes)) pair-passes (front-of r)
+        (record { strains = h .strains; pairs = h .pairs; distances = h .distances; parents = h .parents; end = h .end })
 
     pub parts : Parts s r
-    parts = record {
-      shaped = shaped;
-      strains = h .strains;
-      room = front-there 0 maxPairs (r .pairs) (distanceAt s) (r .distances) kept (omega (arith, h .pairs, few-pairs));
-      size = front-length 0 maxPairs (r .pairs) (distanceAt s) (r .distances) kept;
-      distances = front-is 0 maxPairs (r .pairs) (distanceAt s) (r .distances) kept ∙ ap (λ (k : ℕ). table k (distanceAt s)) (h .pairs);
-      starts = rw (h .parents, h .end) (parents-start here);
-      ends = rw (h .end) (here .there);
-      parents = ap₂ (λ (a e : ℕ). take (e - a) (drop a s)) (h .parents) (h .end) ∙ parents-are here;
-      count = edge-count ∙ parent-count;
+    parts = let p = of-front in record {
+      shaped = p .shaped;
+      strains = p .strains;
+      room = p .room;
+      size = p .size;
+      distances = p .distances;
+      starts = p .starts;
+      ends = p .ends;
+      parents = p .parents;
+      count = p .count;
     }
 
 -- three records or more

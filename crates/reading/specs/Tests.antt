@@ -1,33 +1,19 @@
 -- The answer that a sheet gets: 1 to 5 for its form, then for what its records hold.
-use mathlib.Core.Bool.{Bool, cond, not, _&&_}
+use mathlib.Core.Bool.{Bool, not, _&&_}
 use mathlib.Core.List.{List}
 use Prim.Native.Nat.{ℕ, _-_}
 use lib.Dec.{eqb, ltb}
 use Rattle.verdict.specs.Answer.{Answer, test, _orElse_}
 use Rattle.verdict.specs.declared.Rule.{Rule}
 use Rattle.matrix.specs.Tests.{matrixTests}
-use Rattle.fit_theory.specs.Tests.{shapeTests, postedTests, judgeTests}
+use Rattle.fit_theory.specs.Tests.{judgeTests}
 use Rattle.records.specs.Form.{formTests}
-use Rattle.reading.specs.Holds.{strainsOf, distancesOf, treeStrainsOf, verticesOf, parentsOf, denominatorOf, edgesOf, numeratorsOf}
-
--- 8, here also: the tree's N differs from the matrix's
-abbrev pub strainsDiffer : List ℕ → Bool
-strainsDiffer s = not (eqb (treeStrainsOf s) (strainsOf s))
+pub use Rattle.front.specs.Tests.{strainsDiffer, bothTests, pairTests}
+use Rattle.reading.specs.Holds.{strainsOf, distancesOf, verticesOf, parentsOf, denominatorOf, edgesOf, numeratorsOf}
 
 -- 11, in a sheet with lengths: K not V - 1
 abbrev pub edgesDiffer : ℕ → List ℕ → Bool
 edgesDiffer count s = ltb 2 count && not (eqb (edgesOf s) (verticesOf s - 1))
-
--- what the matrix and the tree of a sheet of so many records are asked: together where lengths follow, each by itself where none do
-abbrev pub bothTests : ℕ → ℕ → List ℕ → List ℕ → Answer
-bothTests count N ds ps = cond (ltb 2 count) (postedTests N ds ps) (shapeTests N ds ps)
-
--- 6 to 10, 16, 26: the matrix, whether the tree is for as many strains, then both
-abbrev pub pairTests : ℕ → List ℕ → Answer
-pairTests count s =
-    matrixTests (strainsOf s) (distancesOf s)
-    orElse test 8 (strainsDiffer s)
-    orElse bothTests count (strainsOf s) (distancesOf s) (parentsOf s)
 
 -- what a sheet of so many records gets from its reader: 1 to 11, 16, 26
 abbrev pub readTests : ℕ → List ℕ → Answer

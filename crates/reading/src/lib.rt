@@ -9,15 +9,11 @@ use verdict::Reason;
 use verdict::Refusal;
 use verdict::Verdict;
 ghost use mathlib.Core.Path.{_≡_};
-ghost use mathlib.Core.Bool.{not};
 ghost use Prim.Native.Nat.{_-_, _≤_};
-ghost use lib.Dec.{eqb};
-ghost use Rattle.verdict.specs.Answer.{pass, answerOf, test, _orElse_};
-ghost use Rattle.matrix.specs.Tests.{matrixTests};
+ghost use Rattle.verdict.specs.Answer.{pass};
 ghost use Rattle.tree_theory.specs.Limits.{maxEdges};
 ghost use Rattle.records.specs.Form.{maxRecords, startOf, formTests};
 ghost use Rattle.reading.specs.Holds.{verticesOf};
-ghost use Rattle.reading.specs.Tests.{bothTests};
 ghost use Rattle.reading.specs.Reads.{Proposed, Blank, SheetAnswer};
 
 // What a sheet holds: N and the distances, then zeros; where the parents of its tree start and end among the
@@ -40,26 +36,6 @@ struct Proposal {
     denominator: u32,
     edges: usize,
     numerators: [i64; Tree::MAX_EDGES],
-}
-
-// 4, 6 to 10, 16, 26: the matrix; 8 where the tree is for other strains; both, together where lengths follow.
-fn posted(count: usize, n: u32, other: u32, distances: &[u16], parents: &[u8]) -> Verdict
-    ensures { λ r. ⌜ answerOf r ≡ (matrixTests n (now (distances .entry)) orElse test 8 (not (eqb other n)) orElse bothTests count n (now (distances .entry)) (now (parents .entry))) ⌝ }
-{
-    if other != n {
-        let of_matrix = matrix::check_matrix(n, distances);
-        return verdict::or_else(
-            of_matrix,
-            Verdict::Refused(Refusal {
-                reason: Reason::Vertices,
-                place: Place::Nowhere,
-            }),
-        );
-    }
-    if count > 2 {
-        return posting::check_posting(n, distances, parents);
-    }
-    posting::check_shapes(n, distances, parents)
 }
 
 // The lengths of a sheet of the form, which start at `at`, beside a tree of so many edges: 11 where K is another
@@ -114,45 +90,33 @@ fn refused(refusal: Refusal) -> Sheet
     }
 }
 
-// What a sheet of the form holds: 6 to 11, 16, 26. More strains than a matrix may have are refused before a distance is
-// read, another count than the tree's edges before a numerator is.
+// What a sheet of the form holds: 6 to 11, 16, 26. Another count than the tree's edges is refused before a numerator is read.
 fn held(s: &[u8], count: usize, tree: usize, end: usize) -> Sheet
     requires { ⌜ (2 ≤ count) × (count ≤ maxRecords) × (formTests count (now s) ≡ pass) × (tree ≡ startOf (now s) 1) × (end ≡ startOf (now s) 2) ⌝ }
     ensures { λ r. ⌜ SheetAnswer count (now (s .entry)) r ⌝ }
 {
-    let n = endian::u16_at(s, Layout::HEAD) as u32;
-    let strains = n as usize;
-    if strains > Matrix::MAX_STRAINS {
-        return refused(Refusal {
-            reason: Reason::Strains,
-            place: Place::Nowhere,
-        });
-    }
-    let pairs = matrix::pair_count(n) as usize;
-    let measured = decoding::distances(s, Layout::HEAD + 2, strains, pairs);
-    let body = tree + Layout::HEAD;
-    let of_tree = endian::u16_at(s, body) as u32;
-    let parents = body + 4;
-    let of_pair = posted(count, n, of_tree, &measured[..pairs], &s[parents..end]);
+    let front = front::read_front(s, count, tree, end);
+    let of_pair = front.verdict;
     if let Verdict::Refused(refusal) = of_pair {
         return refused(refusal);
     }
-    let proposed = proposed_lengths(s, count, end, end - parents);
+    let proposed = proposed_lengths(s, count, end, end - front.parents);
     let of_lengths = proposed.verdict;
     if let Verdict::Refused(refusal) = of_lengths {
         return refused(refusal);
     }
-    let lengths = proposed.numerators;
+    let distances = front.distances;
+    let numerators = proposed.numerators;
     Sheet {
         verdict: Verdict::Accepted,
-        strains: n,
-        pairs,
-        distances: measured,
-        parents,
+        strains: front.strains,
+        pairs: front.pairs,
+        distances,
+        parents: front.parents,
         end,
         denominator: proposed.denominator,
         edges: proposed.edges,
-        numerators: lengths,
+        numerators,
     }
 }
 

@@ -1,4 +1,4 @@
--- 4 by the outcome of each test of a body's counts.
+-- 4 by the outcome of each test of a body's counts, and by the kind of the body.
 use mathlib.Core.Path.{_≡_, refl, sym, ap, _∙_}
 use mathlib.Core.Bool.{true, false, not, _||_}
 use mathlib.Core.List.{List}
@@ -10,7 +10,7 @@ use borrow.Author.Tests.{lt-ltb, le-ltb, eq-eqb, ne-eqb, eqb-true, not-false}
 use lib.Dec.{eqb, ltb}
 use Rattle.exact.proofs.Decide.{by-cases}
 use Rattle.verdict.proofs.Answers.{or-none}
-use Rattle.records.specs.Form.{sizeAt, countsSize, countAt, bodyLength, noVertices, countsOut}
+use Rattle.records.specs.Form.{namesKind, longKind, sizeAt, countsSize, countAt, bodyLength, noVertices, countsOut, namesCut, levelsAt, longEdgesAt, longLength, longOut, bodyOut}
 
 -- N bytes fewer than N² follow N; both are small
 pub square : (n : ℕ) → n * n - n ≡ n * (n - 1)
@@ -62,3 +62,32 @@ counted s at kind e =
     let none = noVertices kind (countAt s at kind) in
     let (_, rest) = or-none (ltb (sizeAt s at) (countsSize kind)) (none || not (eqb (sizeAt s at) due)) e in
     eqb-true (sizeAt s at) due (not-false (eqb (sizeAt s at) due) (or-none none (not (eqb (sizeAt s at) due)) rest .1))
+
+-- ---- long lengths
+-- L times K + 1 is small
+pub product-small : (l k : ℕ) → l < 2 ^ 16 → k < 2 ^ 16 → l * (k + 1) ≤ 65535 * 65536
+product-small l k h g = mul-le-mul {n₂ = 65535} {m₂ = 65536} (omega arith) (omega arith)
+
+module _ (s : List ℕ) (at : ℕ) where
+  pub long-short : (size : ℕ) → size ≡ sizeAt s at → size < 4 → true ≡ longOut s at
+  long-short size e h = simp (sym e, lt-ltb size 4 h)
+
+  pub long-by : (size l k : ℕ) → size ≡ sizeAt s at → l ≡ levelsAt s at → k ≡ longEdgesAt s at → 4 ≤ size → not (eqb size (4 + 4 * (l * (k + 1)))) ≡ longOut s at
+  long-by size l k e f g h = simp (sym e, sym f, sym g, le-ltb size 4 h)
+
+  pub long-counted : longOut s at ≡ false → sizeAt s at ≡ longLength (levelsAt s at) (longEdgesAt s at)
+  long-counted e =
+      let due = longLength (levelsAt s at) (longEdgesAt s at) in
+      eqb-true (sizeAt s at) due (not-false (eqb (sizeAt s at) due) (or-none (ltb (sizeAt s at) 4) (not (eqb (sizeAt s at) due)) e .1))
+
+  -- ---- by the kind
+  module _ (kind : ℕ) where
+    pub body-names : kind ≡ namesKind → bodyOut s at kind ≡ namesCut s at
+    body-names e = simp (eq-eqb kind namesKind e)
+
+    module _ (n : kind ≡ namesKind → ⊥) where
+      pub body-long : kind ≡ longKind → bodyOut s at kind ≡ longOut s at
+      body-long e = simp (ne-eqb kind namesKind n, eq-eqb kind longKind e)
+
+      pub body-counts : (kind ≡ longKind → ⊥) → bodyOut s at kind ≡ countsOut s at kind
+      body-counts e = simp (ne-eqb kind namesKind n, ne-eqb kind longKind e)

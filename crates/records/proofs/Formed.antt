@@ -1,7 +1,7 @@
--- What a form that stands tells: how long the sheet is, where each record starts, its kind, how many names there are, and that the last
--- record ends with the sheet; and the same of a record by the start that `records` gives (`record-at`).
+-- What records that pass tell, and what a form that stands tells: how long the sheet is, where each record starts, its kind, how many
+-- names there are, and that the last record ends with the sheet; and the same of a record by the start that `records` gives (`record-at`).
 use mathlib.Core.Path.{_≡_, sym, ap, _∙_}
-use mathlib.Core.Bool.{Bool, cond, not, _&&_}
+use mathlib.Core.Bool.{Bool, not, _&&_}
 use mathlib.Core.List.{List}
 use Prim.Native.Nat.{ℕ, suc, _+_, _<_, _≤_}
 use native.Mathlib.Decide.{decLt}
@@ -16,13 +16,29 @@ use Rattle.verdict.specs.Answer.{Answer, pass, test, testAt, _orElse_}
 use Rattle.verdict.proofs.Answers.{orElse-pass, test-pass, testAt-pass, passes}
 use Rattle.endian.specs.Bytes.{number}
 use Rattle.records.specs.Names.{nameStart}
-use Rattle.records.specs.Form.{maxSheet, maxNamed, longest, namesKind, kindOf, kindAt, endAt, bodyAt, bodyLength, countAt, countsOut, namesAt, namesCut, startOf, recordTests, recordsTests, namesDiffer, formTests}
+use Rattle.records.specs.Form.{maxSheet, maxNamed, longest, namesKind, kindOf, kindAt, endAt, bodyAt, bodyLength, countAt, namesAt, startOf, recordTests, recordsTests, namesDiffer, formTests}
 use Rattle.records.specs.Laid.{maxStarts, LayoutAnswer}
 use Rattle.records.specs.declared.Layout.{Layout}
 use Rattle.records.proofs.Decoding.{padded-before}
-use Rattle.records.proofs.Counts.{counted}
+use Rattle.records.proofs.Counts.{counted, body-counts}
 use Rattle.records.proofs.InTurn.{record-there, record-counted, record-kind, next-start, each-passes, starts-within}
 
+-- ---- of records that pass
+module _ (count : ℕ) (s : List ℕ) (z : recordsTests s count ≡ pass) (k : ℕ) (l : k < count) where
+  passing : recordTests s (startOf s k) (kindOf k) ≡ pass
+  passing = each-passes s count z k l
+
+  -- record k is there; of the first three, each is as long as its counts say
+  pub passed-ends : startOf s (suc k) ≤ length s
+  passed-ends = rw (next-start s k) (record-there s (startOf s k) (kindOf k) passing)
+
+  pub passed-long : k < 3 → startOf s (suc k) ≡ bodyAt (startOf s k) + bodyLength (kindOf k) (countAt s (startOf s k) (kindOf k))
+  passed-long h =
+      let kind : kindOf k ≡ k + 1 = rw (ne-eqb k 3 (omega arith)) in
+      let counts = sym (body-counts s (startOf s k) (kindOf k) (λ e. omega (arith, kind)) (λ e. omega (arith, kind))) ∙ record-counted s (startOf s k) (kindOf k) passing in
+      next-start s k ∙ ap (λ (n : ℕ). bodyAt (startOf s k) + n) (counted s (startOf s k) (kindOf k) counts)
+
+-- ---- of a form that stands
 module _ (count : ℕ) (s : List ℕ) (z : formTests count s ≡ pass) where
   abbrev differ : Answer
   differ = testAt 4 (Byte (startOf s 3)) (namesDiffer count s)
@@ -51,30 +67,23 @@ module _ (count : ℕ) (s : List ℕ) (z : formTests count s ≡ pass) where
   pub form-whole : length s ≤ startOf s count
   form-whole = ltb-false (startOf s count) (length s) (testAt-pass 5 (Byte (startOf s count)) (ltb (startOf s count) (length s)) (orElse-pass differ left behind-records .1))
 
-  passed : recordsTests s count ≡ pass
-  passed = orElse-pass (recordsTests s count) (differ orElse left) behind-first .0
+  pub form-records : recordsTests s count ≡ pass
+  form-records = orElse-pass (recordsTests s count) (differ orElse left) behind-first .0
 
   -- the last record ends with the sheet
   pub form-ends : startOf s count ≡ length s
-  form-ends = omega (arith, form-whole, starts-within s count passed)
+  form-ends = omega (arith, form-whole, starts-within s count form-records)
 
   -- record k is there; of the first three, each is as long as its counts say
   module _ (k : ℕ) (l : k < count) where
-    passing : recordTests s (startOf s k) (kindOf k) ≡ pass
-    passing = each-passes s count passed k l
-
     pub record-ends : startOf s (suc k) ≤ length s
-    record-ends = rw (next-start s k) (record-there s (startOf s k) (kindOf k) passing)
+    record-ends = passed-ends count s form-records k l
 
     pub record-long : k < 3 → startOf s (suc k) ≡ bodyAt (startOf s k) + bodyLength (kindOf k) (countAt s (startOf s k) (kindOf k))
-    record-long h =
-        let kind : kindOf k ≡ k + 1 = rw (ne-eqb k 3 (omega arith)) in
-        let other = ne-eqb (kindOf k) namesKind (omega (arith, kind)) in
-        let counts = sym (ap (λ (b : Bool). cond b (namesCut s (startOf s k)) (countsOut s (startOf s k) (kindOf k))) other) ∙ record-counted s (startOf s k) (kindOf k) passing in
-        next-start s k ∙ ap (λ (n : ℕ). bodyAt (startOf s k) + n) (counted s (startOf s k) (kindOf k) counts)
+    record-long h = passed-long count s form-records k l h
 
     pub kind-due : kindAt s (startOf s k) ≡ kindOf k
-    kind-due = record-kind s (startOf s k) (kindOf k) passing
+    kind-due = record-kind s (startOf s k) (kindOf k) (passing count s form-records k l)
 
   -- the names, in the fourth record: as many as the matrix has strains, and the last ends with the record
   module _ (l : 3 < count) where
@@ -87,7 +96,7 @@ module _ (count : ℕ) (s : List ℕ) (z : formTests count s ≡ pass) where
     pub names-end : nameStart s (bodyAt (startOf s 3)) (namesAt s (startOf s 3)) ≡ startOf s 4
     names-end =
         let end = nameStart s (bodyAt (startOf s 3)) (namesAt s (startOf s 3)) in
-        eqb-true end (endAt s (startOf s 3)) (not-false (eqb end (endAt s (startOf s 3))) (record-counted s (startOf s 3) namesKind (passing 3 l))) ∙ sym (next-start s 3)
+        eqb-true end (endAt s (startOf s 3)) (not-false (eqb end (endAt s (startOf s 3))) (record-counted s (startOf s 3) namesKind (passing count s form-records 3 l))) ∙ sym (next-start s 3)
 
 -- what the start that `records` gives for record k tells: of any bytes, that it lies in the sheet; of a form that stands, that it is where the
 -- record starts, and the record's kind and end

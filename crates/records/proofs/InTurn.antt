@@ -96,6 +96,13 @@ module _ (s : List ℕ) where
       by-cases (ℕ-discrete k m) (λ e. ap (λ (i : ℕ). recordTests s (startOf s i) (kindOf i)) e ∙ z2)
       (λ n. each-passes m z1 k (omega arith))
 
+  -- where so many pass, so do fewer
+  pub fewer-pass : (m k : ℕ) → k ≤ m → recordsTests s m ≡ pass → recordsTests s k ≡ pass
+  fewer-pass zero k l z = ap (recordsTests s) (omega arith) ∙ z
+  fewer-pass (suc m) k l z =
+      by-cases (ℕ-discrete k (suc m)) (λ e. ap (recordsTests s) e ∙ z)
+      (λ n. fewer-pass m k (omega arith) (orElse-pass (recordsTests s m) (recordTests s (startOf s m) (kindOf m)) (sym (one-more m) ∙ z) .0))
+
   -- behind records that pass starts the next one, within the sheet
   pub starts-within : (m : ℕ) → recordsTests s m ≡ pass → startOf s m ≤ length s
   starts-within zero z = omega (arith, first-start)

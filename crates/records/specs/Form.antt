@@ -1,6 +1,7 @@
 -- The form of a sheet: records one behind the other, each with a four-byte length of its body, a two-byte kind and the body.
 -- 1 matrix: N (2), distances (2 each). 2 tree: N (2), V (2), parents (1 each). 3 lengths: D (4), K (2), numerators (8 each).
 -- 5 names: each a length byte and its bytes. A sheet has the first three; one without lengths has the first two, one with names all four.
+-- 4 long lengths: L (2), K (2), D's L digits, then L levels of K digits (4 each); they stand in place of the lengths in a long sheet.
 use mathlib.Core.Bool.{Bool, cond, not, _&&_, _||_}
 use mathlib.Core.List.{List}
 use Prim.Native.Nat.{ℕ, zero, suc, _+_, _-_, _*_}
@@ -36,6 +37,10 @@ longest count = cond (ltb 3 count) maxNamed maxSheet
 -- the kind of a names record
 abbrev pub namesKind : ℕ
 namesKind = 5
+
+-- the kind of long lengths
+abbrev pub longKind : ℕ
+longKind = 4
 
 -- the kind that is due for record k, counted from 0: 1, 2, 3, and names
 abbrev pub kindOf : ℕ → ℕ
@@ -90,9 +95,22 @@ namesAt s at = nameCount s (bodyAt at) (endAt s at)
 abbrev pub namesCut : List ℕ → ℕ → Bool
 namesCut s at = not (eqb (nameStart s (bodyAt at) (namesAt s at)) (endAt s at))
 
+-- of long lengths: L, K, how long they say that the body is, and whether it is too short for them or of another length
+abbrev pub levelsAt : List ℕ → ℕ → ℕ
+levelsAt s at = number 2 s (bodyAt at)
+
+abbrev pub longEdgesAt : List ℕ → ℕ → ℕ
+longEdgesAt s at = number 2 s (bodyAt at + 2)
+
+abbrev pub longLength : ℕ → ℕ → ℕ
+longLength L K = 4 + 4 * (L * (K + 1))
+
+abbrev pub longOut : List ℕ → ℕ → Bool
+longOut s at = ltb (sizeAt s at) 4 || not (eqb (sizeAt s at) (longLength (levelsAt s at) (longEdgesAt s at)))
+
 -- 4 by the kind: names that do not end with the body, or counts that are out
 abbrev pub bodyOut : List ℕ → ℕ → ℕ → Bool
-bodyOut s at kind = cond (eqb kind namesKind) (namesCut s at) (countsOut s at kind)
+bodyOut s at kind = cond (eqb kind namesKind) (namesCut s at) (cond (eqb kind longKind) (longOut s at) (countsOut s at kind))
 
 -- one record: 2 and 3 for its head, then 4, each at the byte where the record starts
 abbrev pub recordTests : List ℕ → ℕ → ℕ → Answer

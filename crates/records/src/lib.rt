@@ -3,6 +3,8 @@
 //   matrix   = kind 1: N (2), then the N(N-1)/2 distances (2 each)
 //   tree     = kind 2: N (2), V (2), then the V-1 parents (1 each)
 //   lengths  = kind 3: D (4), K (2), then the K numerators (8 each, two's complement)
+//   long     = kind 4: L (2), K (2), then the L digits of D and L levels of K digits (4 each, those of the levels two's complement);
+//              in place of the lengths, in a long sheet
 //   names    = kind 5: names one behind the other, each a length byte and its bytes
 use matrix::Matrix;
 use tree::Tree;
@@ -19,7 +21,7 @@ ghost use Rattle.exact.specs.Table.{table};
 ghost use Rattle.verdict.specs.Answer.{answerOf};
 ghost use Rattle.endian.specs.Bytes.{number};
 ghost use Rattle.records.specs.Names.{nameStart, nameCount};
-ghost use Rattle.records.specs.Form.{maxRecords, longest, namesKind, kindOf, bodyAt, endAt, countsOut, namesAt, bodyOut, recordTests, recordsTests};
+ghost use Rattle.records.specs.Form.{maxRecords, longest, namesKind, kindOf, bodyAt, endAt, countsOut, namesAt, longOut, bodyOut, recordTests, recordsTests};
 ghost use Rattle.records.specs.Laid.{maxStarts, Laid, LayoutAnswer};
 
 // Where each record of a sheet of the form starts, then where the last one ends, then zeros.
@@ -42,6 +44,8 @@ impl Layout {
         + (4 + Tree::MAX_EDGES)
         + (6 + 8 * Tree::MAX_EDGES);
 
+    // The kind of long lengths.
+    pub const LONG: usize = 4;
     // The kind of a names record.
     pub const NAMES: usize = 5;
     // The most bytes of a name.
@@ -123,6 +127,22 @@ fn counts_out(s: &[u8], at: usize, kind: usize) -> bool
     size != 6 + 8 * count
 }
 
+// 4 for long lengths: no room for L and K, or a length that is not as they say. It is that of L digits of D and L of each numerator,
+// of four bytes each, behind L and K.
+fn long_out(s: &[u8], at: usize) -> bool
+    requires { ⌜ endAt (now s) at ≤ length (now s) ⌝ }
+    ensures { λ r. ⌜ r ≡ longOut (now (s .entry)) at ⌝ }
+{
+    let size = endian::u32_at(s, at) as usize;
+    if size < 4 {
+        return true;
+    }
+    let body = at + Layout::HEAD;
+    let levels = endian::u16_at(s, body) as usize;
+    let edges = endian::u16_at(s, body + 2) as usize;
+    size != 4 + 4 * (levels * (edges + 1))
+}
+
 // 4 by the kind: names that do not end with the body, or counts that are out.
 fn body_out(s: &[u8], at: usize, kind: usize) -> bool
     requires { ⌜ (1 ≤ kind) × (kind ≤ namesKind) × (endAt (now s) at ≤ length (now s)) ⌝ }
@@ -131,6 +151,9 @@ fn body_out(s: &[u8], at: usize, kind: usize) -> bool
     if kind == Layout::NAMES {
         let names = names_at(s, at);
         return names.end != at + Layout::HEAD + endian::u32_at(s, at) as usize;
+    }
+    if kind == Layout::LONG {
+        return long_out(s, at);
     }
     counts_out(s, at, kind)
 }
@@ -175,7 +198,7 @@ fn no_starts() -> [usize; Layout::MAX_STARTS]
 }
 
 // A refusal, with no starts.
-fn refused(refusal: Refusal) -> Layout
+pub fn refused(refusal: Refusal) -> Layout
     ensures { λ r. ⌜ (r .verdict ≡ Verdict.Refused refusal) × (r .starts ≡ table maxStarts (λ _. 0)) ⌝ }
 {
     Layout {
@@ -185,7 +208,7 @@ fn refused(refusal: Refusal) -> Layout
 }
 
 // 2, 3, 4 for each of so many records in turn.
-fn in_turn(s: &[u8], count: usize) -> Layout
+pub fn in_turn(s: &[u8], count: usize) -> Layout
     requires { ⌜ count ≤ maxRecords ⌝ }
     ensures { λ r. ⌜ Laid (recordsTests (now (s .entry)) count) count (now (s .entry)) r ⌝ }
 {

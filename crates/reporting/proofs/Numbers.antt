@@ -32,24 +32,19 @@ use Rattle.tree_theory.specs.Limits.{maxEdges}
 use Rattle.lengths.specs.Limits.{maxDenominator, maxNumerator}
 use Rattle.fit_theory.specs.Quantities.{partsIn, roundedOf, treeLength, fOf, rOf, hOf}
 use Rattle.fit_theory.specs.Stands.{Posted, Stands}
-use Rattle.fit_theory.proofs.Demand3.{least, r-range, h-high}
-use Rattle.fit_numbers.proofs.Back.{between}
+use Rattle.fit_theory.proofs.Demand3.{least, f-range, r-range, h-high}
 use Rattle.fit_theory.proofs.Ranges.{bounds, rounded-range}
 use Rattle.paths.specs.Standing.{Standing}
 use Rattle.pairs.specs.Ready.{Ready}
 use Rattle.pairs.proofs.Lent as lent
 use Rattle.reporting.specs.Answers.{maxTreeLength}
 
--- a number that fits 63 bits comes back as it went in
-pub fits-of : (z y : ℤ) → z ≡ y → Fits63 y → SFits w64 z
-fits-of z y e f = fits-abs z (omega (arith, ap natAbs e, between y 9223372036854775807 (f .low) (f .high)))
-
 module _ (rule : Rule) (N : ℕ) (ds ps : List ℕ) (D : ℕ) (ns : List ℤ) (s : Stands rule N ds ps D ns) where
   pub posted : Posted N ds ps
-  posted = record { matrix = s .matrix; tree = s .tree; seen = s .seen }
+  posted = s .fitted .posted
 
   pub edges-few : length ps ≤ maxEdges
-  edges-few = lent.few-edges (s .tree)
+  edges-few = lent.few-edges (s .fitted .posted .tree)
 
   pub total-near : natAbs (treeLength ns) ≤ maxTreeLength
   total-near = let few : length ns ≤ maxEdges = omega (arith, s .lengths .whole, edges-few) in
@@ -59,10 +54,10 @@ module _ (rule : Rule) (N : ℕ) (ds ps : List ℕ) (D : ℕ) (ns : List ℤ) (s
   total-is = ap (λ (k : ℕ). sum k (entryOf ns)) (sym (s .lengths .whole))
 
   pub f-fits : Fits63 (fOf N ds ps D ns)
-  f-fits = record { low = least rule N ds ps D ns s .f-low; high = ≤-trans (least rule N ds ps D ns s .f-high) (record { le = tt }) }
+  f-fits = record { low = least rule N ds ps D ns (s .fitted) .f-low; high = ≤-trans (f-range rule N ds ps D ns s) (record { le = tt }) }
 
   pub h-fits : Fits63 (hOf N ds ps)
-  h-fits = record { low = S-sq (pairs-sums N) (hops (length ps) (partsIn ds ps)); high = ≤-trans (h-high (length ps) edges-few (partsIn ds ps) N (s .matrix .few)) (record { le = tt }) }
+  h-fits = record { low = S-sq (pairs-sums N) (hops (length ps) (partsIn ds ps)); high = ≤-trans (h-high (length ps) edges-few (partsIn ds ps) N (s .fitted .posted .matrix .few)) (record { le = tt }) }
 
   -- the table of rounded lengths, zeros behind its edges
   module _ (ms : List ℤ) (e : ms ≡ table maxEdges (λ v. cond (ltb v (length ps)) (nearest D (entryOf ns v)) (pos 0))) where
@@ -75,13 +70,12 @@ module _ (rule : Rule) (N : ℕ) (ds ps : List ℕ) (D : ℕ) (ns : List ℤ) (s
     pub ready-rounded : {cs : List ℕ} → Standing N (length ps) ps cs → Ready N (length ps) 1000 ds ps cs ms
     ready-rounded w = record {
       standing = w;
-      one = omega arith;
       most = omega arith;
-      room = omega (arith, s .matrix .whole);
-      near = known-near (s .matrix);
+      room = omega (arith, s .fitted .posted .matrix .whole);
+      near = known-near (s .fitted .posted .matrix);
       small = record {
         room = omega (arith, edges-few, ap length e, length-table maxEdges (λ u. cond (ltb u (length ps)) (nearest D (entryOf ns u)) (pos 0)));
-        near = λ v h. omega (arith, ap natAbs (entry-is v h), rounded-range (bounds (s .matrix) (s .lengths)) (partsIn ds ps) v h);
+        near = λ v h. omega (arith, ap natAbs (entry-is v h), rounded-range (bounds (s .fitted .posted .matrix) (s .lengths)) (partsIn ds ps) (s .lengths .one) v h);
       };
     }
 
@@ -89,7 +83,7 @@ module _ (rule : Rule) (N : ℕ) (ds ps : List ℕ) (D : ℕ) (ns : List ℤ) (s
     r-same = S-cong (pairs-sums N) (λ p. ap (λ (z : ℤ). sq (pos 1000 *ℤ distance ds p -ℤ z)) (path-cong (length ps) (partsIn ds ps) (entryOf ms) (roundedOf D ns) entry-is p))
 
     pub r-fits : Fits63 (sumR (pairs N) (length ps) (partsIn ds ps) (distance ds) (entryOf ms))
-    r-fits = let (low, high) = r-range rule N ds ps D ns s in subst Fits63 (sym r-same) (record { low = low; high = ≤-trans high (record { le = tt }) })
+    r-fits = let (low, high) = r-range rule N ds ps D ns (s .fitted) in subst Fits63 (sym r-same) (record { low = low; high = ≤-trans high (record { le = tt }) })
 
     pub rounded-is : (after : List ℤ) → after ≡ table (length ps) (entryOf ms) → after ≡ table (length ps) (roundedOf D ns)
     rounded-is after f = f ∙ table-cong (pos 0) (length ps) (entryOf ms) (roundedOf D ns) entry-is

@@ -1,6 +1,6 @@
 -- For a customer that proves something from our contracts: every law that it cites, in one place.
 -- Of answers: `same-answer`, `not-pass`, `passes`, `refused-row`, `accepted-row`, `orElse-pass`, `testAt-pass`, `test-pass`. Of proposals: `stands→`, `→stands`, `least`,
--- `r-range`, `one-fit`, `accepted-agree`. Of the two rules: `drawable`, `all-positive`, `sheet-drawable`, `drawable-report`. Of the mean
+-- `f-range`, `r-range`, `one-fit`, `accepted-agree`. Of the two rules: `drawable`, `all-positive`, `sheet-drawable`, `drawable-report`. Of the mean
 -- square: `missing-none`, `three-none`, `four-over`, `none-three`. Of complete matrices: `complete-posted`, `as-whole`. Of sheets:
 -- `sheet-stands`, `sheet-agree`; `sheet-form`, `form-ends`, `record-at` and `third-record` for where the records stand by the starts that
 -- `records` gives; `same-matrix`, `same-rows`: two sheets have one matrix exactly where their rows agree. Where a refusal points: `placed`,
@@ -34,7 +34,7 @@ pub use Rattle.verdict.proofs.Answers.{LowestAtFault, same-answer, not-pass, pa
 pub use Rattle.mean.proofs.Divisor.{missing-none, three-none, four-over, none-three}
 pub use Rattle.fit_theory.proofs.Exactly.{stands→, →stands, posted→, →posted}
 pub use Rattle.fit_theory.proofs.Complete.{complete-parts, as-whole, complete-seen, complete-posted}
-pub use Rattle.fit_theory.proofs.Demand3.{least, r-range}
+pub use Rattle.fit_theory.proofs.Demand3.{least, f-range, r-range}
 pub use Rattle.fit_theory.proofs.OneFit.{one-fit, accepted-one, accepted-agree}
 pub use Rattle.fit_theory.proofs.Joined.{drawable, drawable-too, all-positive}
 pub use Rattle.fit_theory.proofs.Placed.{Placed, placed}
@@ -100,4 +100,4 @@ sheet-agree rule s t strains matrix tree all z y =
     subst⁻¹ (λ (N : ℕ). Stands rule N (distancesOf s) (parentsOf s) (denominatorOf t) (numeratorsOf t)) strains
     (subst⁻¹ (λ (ds : List ℕ). Stands rule (strainsOf t) ds (parentsOf s) (denominatorOf t) (numeratorsOf t)) matrix
     (subst⁻¹ (λ (ps : List ℕ). Stands rule (strainsOf t) (distancesOf t) ps (denominatorOf t) (numeratorsOf t)) tree of-t)) in
-    one-fit rule (strainsOf s) (distancesOf s) (parentsOf s) (denominatorOf s) (numeratorsOf s) all (sheet-stands s rule z) .agree (denominatorOf t) (numeratorsOf t) as-s
+    one-fit rule (strainsOf s) (distancesOf s) (parentsOf s) (denominatorOf s) (numeratorsOf s) all (sheet-stands s rule z .fitted) .agree (denominatorOf t) (numeratorsOf t) (as-s .fitted)

@@ -35,7 +35,6 @@ module _ {ns : List ℤ} (e : ns ≡ table maxEdges (λ _. pos 0)) where
   pub none-ready : {N : ℕ} {ds ps cs : List ℕ} → Posted N ds ps → Standing N (length ps) ps cs → Ready N (length ps) 1 ds ps cs ns
   none-ready p s = record {
     standing = s;
-    one = omega arith;
     most = omega arith;
     room = omega (arith, p .matrix .whole);
     near = known-near (p .matrix);

@@ -8,7 +8,7 @@ use Rattle.verdict.specs.declared.Place.the-variants.{Nowhere, Byte, Vertex, Ed
 use Rattle.verdict.specs.declared.Rule.the-variants.{Plain}
 use Rattle.mean.specs.declared.Mean.the-variants.{None, Over}
 use Rattle.writing.specs.Text.{digits}
-use Rattle.lines.specs.Lines.{fields, line, meanLine, refusedWord, refusedLine, edgeLines, fitText, resolvedText}
+use Rattle.lines.specs.Lines.{fields, line, meanLine, refusedWord, refusedLine, edgeLines, fitText, resolvedText, fieldsBy, fitTextBy, edgeLinesBy}
 
 -- "fit 4 5 2", five edges, "length 23", "square 2 1000000 44", "mean 2 2", each with its LF, as bytes
 abbrev pub sheet-a : List ℕ
@@ -26,12 +26,12 @@ sheet-a =
 pub print-of-a :
     fitText Plain 4 5 2 (λ v. getD (pos 3 ∷ pos 3 ∷ pos 3 ∷ pos 7 ∷ pos 7 ∷ []) v (pos 0)) (λ v. getD (pos 1500 ∷ pos 1500 ∷ pos 1500 ∷ pos 3500 ∷ pos 3500 ∷ []) v (pos 0)) (pos 23) (pos 2) (pos 1000000) (pos 44) (Over (pos 2))
     ≡ sheet-a
-unfolding digits fields edgeLines fitText
+unfolding digits fieldsBy edgeLinesBy fitTextBy
 print-of-a = refl
 
 -- "mean none", with its LF
 pub print-of-no-mean : (F : ℤ) → meanLine F None ≡ 109 ∷ 101 ∷ 97 ∷ 110 ∷ 32 ∷ 110 ∷ 111 ∷ 110 ∷ 101 ∷ 10 ∷ []
-unfolding fields
+unfolding fieldsBy
 print-of-no-mean F = refl
 
 -- "refused 14 edge 0 -2", "refused 9 vertex 4", "refused 13 edge 7", "refused 2 byte 0", "refused 6", each with its LF
@@ -41,7 +41,7 @@ pub prints-of-refusals :
     × (refusedLine 13 (Edge 7) ≡ 114 ∷ 101 ∷ 102 ∷ 117 ∷ 115 ∷ 101 ∷ 100 ∷ 32 ∷ 49 ∷ 51 ∷ 32 ∷ 101 ∷ 100 ∷ 103 ∷ 101 ∷ 32 ∷ 55 ∷ 10 ∷ [])
     × (refusedLine 2 (Byte 0) ≡ 114 ∷ 101 ∷ 102 ∷ 117 ∷ 115 ∷ 101 ∷ 100 ∷ 32 ∷ 50 ∷ 32 ∷ 98 ∷ 121 ∷ 116 ∷ 101 ∷ 32 ∷ 48 ∷ 10 ∷ [])
     × (refusedLine 6 Nowhere ≡ 114 ∷ 101 ∷ 102 ∷ 117 ∷ 115 ∷ 101 ∷ 100 ∷ 32 ∷ 54 ∷ 10 ∷ [])
-unfolding digits fields
+unfolding digits fieldsBy
 prints-of-refusals = (refl, refl, refl, refl, refl)
 
 -- where there is no place the line is a word and a number
@@ -62,5 +62,5 @@ tree-a =
 pub print-of-tree-a :
     resolvedText 4 5 (λ v. getD (pos 3 ∷ pos 3 ∷ pos 3 ∷ pos 7 ∷ pos 7 ∷ []) v (pos 0)) (λ v. 2) (λ v. getD (pos 1500 ∷ pos 1500 ∷ pos 1500 ∷ pos 3500 ∷ pos 3500 ∷ []) v (pos 0)) (pos 1000000) (pos 44)
     ≡ tree-a
-unfolding digits fields edgeLines resolvedText
+unfolding digits fieldsBy edgeLinesBy resolvedText
 print-of-tree-a = refl

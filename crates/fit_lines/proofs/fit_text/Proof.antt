@@ -7,7 +7,7 @@ use mir.Facts.{toZ-ofZ}
 use lib.IntN.{pos}
 use Rattle.exact.specs.Table.{entryOf}
 use Rattle.writing.specs.Text.{Wrote}
-use Rattle.lines.specs.Lines.{line, fitWord, lengthWord, squareWord, meanLine, fitText}
+use Rattle.lines.specs.Lines.{line, fitWord, lengthWord, squareWord, meanLine, fitText, fitTextBy}
 use Rattle.lines.specs.Page.{widest}
 use Rattle.lines.proofs.Pieces.{and-then}
 use Rattle.lines.proofs.Sizes.{line-length, edges-end, word-length, text-length}
@@ -72,7 +72,7 @@ same-length : tie.Need-same-length
 same-length c = search needs
 
 returns : tie.Need-returns
-unfolding fitText
+unfolding fitTextBy
 returns c = let a = c .before .before .before .before .before .before .before .before .before .before .before .before .before .before .before .before .before .before .before .before .before .before .before .before .before .args in
     let fourth-at = c .before .before .before .before .before .before in
     let third-at = fourth-at .before .before .before .before .before .before in

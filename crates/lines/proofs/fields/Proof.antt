@@ -14,7 +14,7 @@ use Rattle.exact.specs.Table.{entryOf}
 use Rattle.writing.specs.Text.{signed, Wrote}
 use Rattle.writing.proofs.Writing.{wrote-none, wrote-then}
 use Rattle.writing.proofs.Decimals.{signed-length}
-use Rattle.lines.specs.Lines.{fields}
+use Rattle.lines.specs.Lines.{fields, fieldsBy}
 use Rattle.lines.proofs.Pieces.{fields-more}
 use Rattle.lines.proofs.Sizes.{fields-length}
 use Rattle.lines.proofs.fields.Statement.{statement}
@@ -22,7 +22,7 @@ use Rattle.lines.proofs.fields.Tie as tie
 
 -- no number, and one more, over plain numbers and lists
 none : (b : List ℕ) (at : ℕ) (zs : List ℤ) → Wrote b b at (fields (take 0 zs)) at
-unfolding fields
+unfolding fieldsBy
 none b at zs = wrote-none b at
 
 -- where the numbers so far end, at the latest

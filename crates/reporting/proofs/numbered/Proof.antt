@@ -13,7 +13,8 @@ use Rattle.matrix.proofs.Places.{pairs-few}
 use Rattle.lengths.specs.Limits.{maxDenominator}
 use Rattle.fit_theory.proofs.Demand3.{least}
 use Rattle.pairs.proofs.Lent.{standing, ready, in-range}
-use Rattle.reporting.proofs.Numbers.{posted, edges-few, total-near, total-is, fits-of, f-fits, h-fits, ready-rounded, r-same, r-fits, rounded-is}
+use Rattle.fit_numbers.proofs.Back.{fits-of}
+use Rattle.reporting.proofs.Numbers.{posted, edges-few, total-near, total-is, f-fits, h-fits, ready-rounded, r-same, r-fits, rounded-is}
 use borrow.Author.Needs.{needs}
 use Rattle.reporting.proofs.numbered.Statement.{statement}
 use Rattle.reporting.proofs.numbered.Tie as tie
@@ -38,7 +39,7 @@ sum-squares-requires : tie.Need-sum-squares-requires
 sum-squares-requires c κs = let s = c .before .before .before .before .before .before .before .before in
     let p = s .pre .0 in
     let e = c .before .before .before .before .rounded .ensures in
-    (ready-rounded _ _ _ _ _ _ p _ e (standing (s .args .n) (s .args .parents .now) _ (c .before .before .before .before .before .clusters .ensures) (p .tree)), r-fits _ _ _ _ _ _ p _ e)
+    (ready-rounded _ _ _ _ _ _ p _ e (standing (s .args .n) (s .args .parents .now) _ (c .before .before .before .before .before .clusters .ensures) (p .fitted .posted .tree)), r-fits _ _ _ _ _ _ p _ e)
 
 total-requires : tie.Need-total-requires
 total-requires c κs = let s = c .before .before .before .before .before .before .before .before .before in (edges-few _ _ _ _ _ _ (s .pre .0), in-range (s .pre .0 .lengths))
@@ -47,7 +48,7 @@ copy-out-requires : tie.Need-copy-out-requires
 copy-out-requires c κs = search needs
 
 mean-over-requires : tie.Need-mean-over-requires
-mean-over-requires c κs = c .before .before .before .before .before .before .before .before .before .before .before .before .before .before .pre .0 .matrix
+mean-over-requires c κs = c .before .before .before .before .before .before .before .before .before .before .before .before .before .before .pre .0 .fitted .posted .matrix
 
 same-length : tie.Need-same-length
 same-length c = search needs
@@ -70,7 +71,7 @@ returns c = let s = c .before .before .before .before .before .before .before .b
         mean = c .before .mean-over .ensures;
         rounded = rounded-is _ _ _ _ _ _ p _ e _ (c .before .before .before .copy-out .ensures);
         stands = p;
-        least = least _ _ _ _ _ _ p;
+        least = least _ _ _ _ _ _ (p .fitted);
         near = total-near _ _ _ _ _ _ p;
       },
     )

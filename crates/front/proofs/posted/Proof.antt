@@ -2,10 +2,10 @@
 use mathlib.Core.Path.{ap, _∙_}
 use Rattle.verdict.specs.declared.Place.the-variants.{Nowhere}
 use Rattle.verdict.specs.Answer.{Answer, fault, _orElse_}
-use Rattle.reading.proofs.Formed.{apart, together, each}
+use Rattle.front.proofs.Formed.{apart, together, each}
 use borrow.Author.Needs.{needs}
-use Rattle.reading.proofs.posted.Statement.{statement}
-use Rattle.reading.proofs.posted.Tie as tie
+use Rattle.front.proofs.posted.Statement.{statement}
+use Rattle.front.proofs.posted.Tie as tie
 
 check-matrix-requires : tie.Need-check-matrix-requires
 check-matrix-requires c κs = search needs

@@ -1,0 +1,4 @@
+pub mod Formed
+pub mod Answered
+pub mod Parts
+pub mod Settled

@@ -1,0 +1,4 @@
+pub mod Values
+pub mod Clamps
+pub mod Sums
+pub mod Carries

@@ -1,0 +1,3 @@
+pub mod Answered
+pub mod Parts
+pub mod Settled

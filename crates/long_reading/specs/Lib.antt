@@ -1,0 +1,3 @@
+pub mod LongHolds
+pub mod LongTests
+pub mod LongReads

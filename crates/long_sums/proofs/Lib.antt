@@ -1,0 +1,4 @@
+pub mod Nexts
+pub mod Filling
+pub mod Gathering
+pub mod Topping
