@@ -106,7 +106,7 @@ class Journal:
     def is_at_path(self, held):
         try:
             return os.path.samestat(os.stat(self.path), held)
-        except FileNotFoundError:
+        except OSError:
             return False
 
     def last_line_end(self):
@@ -302,7 +302,7 @@ def replay(program, journal):
                 program.ask(data, line)
             program.unsent += lines.beginning()
             more = block and not damage
-        if not program.asked:
+        if not program.asked and not program.unsent:
             continue
         for _, answer in program.turn()[0]:
             number += 1
@@ -404,6 +404,12 @@ def answer(program, journal, calls):
 
 
 def main(path, calls, *words):
+    for descriptor in 0, 1, 2:
+        # the journal must not get the number of a stream that is closed
+        try:
+            os.fstat(descriptor)
+        except OSError:
+            os.open(os.devnull, os.O_RDWR)
     if signal.getsignal(signal.SIGINT) is signal.default_int_handler:
         # there is nothing to be done first: what was answered is in the journal, and the lock goes with the process
         signal.signal(signal.SIGINT, signal.SIG_DFL)
@@ -417,6 +423,13 @@ def main(path, calls, *words):
         answer(program, journal, calls)
     except Fault as fault:
         say(str(fault))
+        return 2
+    except OSError as error:
+        say(f"{path}: {error.strerror}")
+        return 2
+    except (ArithmeticError, LookupError, TypeError, ValueError) as error:
+        # ours, not the journal's
+        say(f"a fault in this program: {error!r}")
         return 2
     finally:
         if program:
