@@ -13,6 +13,7 @@ use Rattle.desk_theory.specs.Promises.{Sound}
 use Rattle.desk_theory.proofs.Runs.{refused-same, benches}
 use Rattle.desk_text.specs.Meaning.{Meaning, silent, wrong, call, shows, meaningOf}
 use Rattle.desk_answers.specs.Telling.{okLine, textOn, afterOn}
+use Rattle.desk_journal.proofs.Ends.{read-again}
 use Rattle.desk_journal.specs.Journal.{answerTo, afterLine, runLines, answersTo, isOk, kept, withCall, callsIn, JournalHolds}
 
 -- a call that passes is answered `ok`, and one that does not changes nothing
@@ -92,6 +93,7 @@ still-right ls = rw (by-calls (kept empty ls) empty) (benches .stands (callsIn (
 
 pub journal-holds : JournalHolds
 journal-holds = record {
+  read-again = read-again;
   replayed = λ ls. replayed ls empty;
   answered-again = λ ls. answered-again ls empty;
   since-lines = since-lines;

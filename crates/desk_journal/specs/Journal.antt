@@ -1,9 +1,10 @@
 -- The desk's journal (RULES, The desk's journal): of the lines that were asked, those that got `ok`, as they came; and what holds of the desk
 -- that they are replayed on.
 use mathlib.Core.Path.{_≡_}
-use mathlib.Core.Bool.{Bool, cond}
+use mathlib.Core.Bool.{Bool, true, cond}
 use mathlib.Core.List.{List, [], _∷_, _++_, map}
 use Prim.Native.Nat.{ℕ}
+use lib.ListN.{length}
 use Rattle.verdict.specs.Answer.{pass}
 use Rattle.digits.specs.Digits.{same}
 use Rattle.fit_theory.specs.Tests.{postedTests}
@@ -11,6 +12,7 @@ use Rattle.desk_theory.specs.Desk.{Desk, Call, post, empty, run}
 use Rattle.desk_theory.specs.Promises.{Sound}
 use Rattle.desk_text.specs.Meaning.{Meaning, silent, wrong, call, shows, meaningOf}
 use Rattle.desk_answers.specs.Telling.{okLine, textOn, afterOn}
+use Rattle.desk_feed.specs.Feed.{feedAt, endOf}
 
 -- the bytes that a line is answered with, and the desk after it
 abbrev pub answerTo : Desk → List ℕ → List ℕ
@@ -50,6 +52,8 @@ callsIn [] = []
 callsIn (l ∷ ls) = withCall (meaningOf l) (callsIn ls)
 
 pub record JournalHolds : Type 0 where
+  -- a line that gets `ok`, written with LF behind it, is read again as the line that it was: no LF comes before that one, and no CR right before it
+  pub read-again : (d : Desk) (l rest : List ℕ) → isOk d l ≡ true → (feedAt (l ++ (10 ∷ rest)) 0 ≡ length l) × (endOf (l ++ (10 ∷ rest)) 0 (length l) ≡ length l)
   -- replaying what was written gives the desk that answered
   pub replayed : (ls : List (List ℕ)) → runLines empty (kept empty ls) ≡ runLines empty ls
   -- and every line of it is answered `ok` again
