@@ -775,10 +775,15 @@ def record(kind, body):
     return struct.pack("<IH", len(body), kind) + body
 
 
-def matrix_record(square):
+def in_rows(square):
+    """The distances 01, 02, .., 12, 13, .., with 65535 for a pair that nobody measured."""
     n = len(square)
-    distances = [square[i][j] for i in range(n) for j in range(i + 1, n)]
-    return record(1, struct.pack(f"<H{len(distances)}H", n, *distances))
+    return [square[i][j] for i in range(n) for j in range(i + 1, n)]
+
+
+def matrix_record(square):
+    distances = in_rows(square)
+    return record(1, struct.pack(f"<H{len(distances)}H", len(square), *distances))
 
 
 def tree_record(n, parents):
