@@ -7,7 +7,7 @@
  * Nothing is kept between two calls: no function has memory of its own but the stack, so any number of threads may
  * call any of them at once, as long as no buffer that one of them writes is lent to another.
  *
- * Tables are on the stack. A verdict takes 23,400 bytes of it, a print of a sheet at most 34,700, newick_print 33,500,
+ * Tables are on the stack. A verdict takes 26,900 bytes of it, a print of a sheet at most 37,200, newick_print 37,000,
  * newick_read 42,100 and each of the others less, as measured with the largest sheets and the deepest trees; 64 KiB are
  * enough for a thread that calls any of them (bench/RESULTS.md, What an entry takes of the stack).
  *

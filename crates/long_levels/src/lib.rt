@@ -37,7 +37,13 @@ pub fn total_levels(edges: usize, levels: usize, digits: &[i64]) -> [i64; MAX_LE
 }
 
 // One level of F: a digit of D times the sum of squared distances, less each edge's digit times its split sum.
-fn level_f(edges: usize, d: u32, squares: i64, splits: &[i64; Tree::MAX_EDGES], level: &[i64]) -> i64
+fn level_f(
+    edges: usize,
+    d: u32,
+    squares: i64,
+    splits: &[i64; Tree::MAX_EDGES],
+    level: &[i64],
+) -> i64
     requires { ⌜ Splits edges squares (now splits) ⌝ }
     requires { ⌜ (d < base) × Level edges (now level) ⌝ }
     ensures { λ r. ⌜ (r ≡ levelF edges squares (entryOf (now (splits .entry))) (pos d) (entryOf (now (level .entry)))) × (natAbs r ≤ 9000000000000000000) ⌝ }

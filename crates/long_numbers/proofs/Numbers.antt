@@ -192,8 +192,11 @@ module _ {N K L : ℕ} {Ds ds ps cs : List ℕ} {ns : List ℤ} (w : LongReady N
       few = few;
       whole = omega (arith, ap natAbs s, squares-near);
       size = t .size;
-      each = λ v l. omega (arith, ap natAbs (split-of v l ∙ splits-are (pairs-sums N) K (partsIn ds ps) (distance ds) v),
-          pairs-abs N 50000 (λ p. ind (partsIn ds ps v p) *ℤ distance ds p) (w .standing .allowed .few) (λ p. omega (arith, ind-abs (partsIn ds ps v p) (distance ds p), near p)));
+      each = λ v l. omega (
+        arith,
+        ap natAbs (split-of v l ∙ splits-are (pairs-sums N) K (partsIn ds ps) (distance ds) v),
+        pairs-abs N 50000 (λ p. ind (partsIn ds ps v p) *ℤ distance ds p) (w .standing .allowed .few) (λ p. omega (arith, ind-abs (partsIn ds ps v p) (distance ds p), near p)),
+      );
     }
 
     level-is : (D : ℤ) (n : ℕ → ℤ) → levelF K sq (entryOf sums) D n ≡ sumF S K (partsIn ds ps) (distance ds) D n

@@ -66,7 +66,7 @@ loop-again : tie.Need-loop-again Inv-loop μ-loop
 loop-again c = let s = c .before .before .before .before .before .before in let l = c .before .before .before .before .loop in let a = c .before .before in
     let r = c .before .parted .result in
     let p : Parted (entryOf (s .args .f .now) (l .left - 1) +ℤ toZ w64 (l .carry)) (r .over) (r .kept) =
-        subst (λ (z : ℤ). Parted z (r .over) (r .kept)) (sum-is (entryOf (s .args .f .now) (l .left - 1)) (toZ w64 (l .carry)) (level-near a) (l .inv .near)) (c .before .parted .ensures) in
+    subst (λ (z : ℤ). Parted z (r .over) (r .kept)) (sum-is (entryOf (s .args .f .now) (l .left - 1)) (toZ w64 (l .carry)) (level-near a) (l .inv .near)) (c .before .parted .ensures) in
     let e : l .left ≡ suc (l .left - 1) = omega (arith, c .before .before .before .loop-test .taken) in
     subst (λ (z : ℤ). Carrying (s .args .levels) (entryOf (s .args .f .now)) (l .left - 1) z (set (l .digits) (l .left - 1 + 3) (r .kept))) (sym (back (r .over) (omega (arith, p .near))))
     (carry-turn (s .args .levels) (entryOf (s .args .f .now)) (l .left - 1) (toZ w64 (l .carry)) (r .over) (r .kept) (l .digits) (omega (arith, s .pre .0 .0))

@@ -35,10 +35,14 @@ returns-3 c = let s = c .before .before .before .before .before .before in
     (c .before .before .if2 .left) (sym (c .before .denominator-out .ensures) ∙ c .if3 .taken)
 
 first-out-requires : tie.Need-first-out-requires
-first-out-requires c κs = let s = c .before .before .before .before .before .before in
-    (omega (arith, eqb-true (length (s .args .digits .now)) (length (s .args .d .now) * s .args .edges)
-      (not-false (eqb (length (s .args .digits .now)) (length (s .args .d .now) * s .args .edges)) (sym (c .before .before .before .before .table-out .ensures) ∙ c .before .before .before .if1 .left))),
-    denominator-digits (s .args .d .now) (sym (c .before .denominator-out .ensures) ∙ c .if3 .left))
+first-out-requires c κs = let s = c .before .before .before .before .before .before in (
+  omega (
+    arith,
+    eqb-true (length (s .args .digits .now)) (length (s .args .d .now) * s .args .edges)
+        (not-false (eqb (length (s .args .digits .now)) (length (s .args .d .now) * s .args .edges)) (sym (c .before .before .before .before .table-out .ensures) ∙ c .before .before .before .if1 .left)),
+  ),
+  denominator-digits (s .args .d .now) (sym (c .before .denominator-out .ensures) ∙ c .if3 .left),
+)
 
 returns-4 : tie.Need-returns-4
 returns-4 c = let s = c .before .before .before .before .before .before .before .before in let d = c .before .before in

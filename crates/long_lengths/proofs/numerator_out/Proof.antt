@@ -31,8 +31,8 @@ beyond-requires : tie.Need-beyond-requires
 beyond-requires c κs = let s = c .before .before .before in
     let far : ℕ → Bool = λ k. ltb 999999 (natAbs (digitOf (s .args .edges) (s .args .digits .now) k (s .args .v))) in
     let none = or-none (some (length (s .args .d .now)) far)
-        (some (length (s .args .d .now)) (λ k. ltZ (digitOf (s .args .edges) (s .args .digits .now) k (s .args .v)) (pos 0)) && some (length (s .args .d .now)) (λ k. ltZ (pos 0) (digitOf (s .args .edges) (s .args .digits .now) k (s .args .v))))
-        (sym (c .before .digits-out .ensures) ∙ c .if1 .left) .0 in
+    (some (length (s .args .d .now)) (λ k. ltZ (digitOf (s .args .edges) (s .args .digits .now) k (s .args .v)) (pos 0)) && some (length (s .args .d .now)) (λ k. ltZ (pos 0) (digitOf (s .args .edges) (s .args .digits .now) k (s .args .v))))
+    (sym (c .before .digits-out .ensures) ∙ c .if1 .left) .0 in
     record {
       row = s .pre .0;
       levels = omega arith;

@@ -48,7 +48,7 @@ is-found-requires c κs = search needs
 -- the digit that is asked
 tested : (c : tie.After-is-found Inv-loop μ-loop)
     → c .is-found .result ≡ foundBy (c .before .before .before .before .args .find)
-        (digitOf (c .before .before .before .before .args .edges) (c .before .before .before .before .args .digits .now) (c .before .before .before .loop .k) (c .before .before .before .before .args .v))
+    (digitOf (c .before .before .before .before .args .edges) (c .before .before .before .before .args .digits .now) (c .before .before .before .loop .k) (c .before .before .before .before .args .v))
 tested c =
     let s = c .before .before .before .before in
     let x = digitOf (s .args .edges) (s .args .digits .now) (c .before .before .before .loop .k) (s .args .v) in
