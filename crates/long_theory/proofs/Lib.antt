@@ -1,3 +1,4 @@
 pub mod Checked
 pub mod Exactly
 pub mod OneFit
+pub mod Same
