@@ -10,7 +10,7 @@ use Rattle.verdict.specs.declared.Rule.{Rule}
 use Rattle.long_theory.specs.Long.{LongStands}
 use Rattle.long_theory.specs.Tests.{longTests}
 
-pub record LongAnswer (rule : Rule) (N : ℕ) (ds ps Ds : List ℕ) (ns : List ℤ) (r : Verdict) : Type 0 where
+pub record LongJudged (rule : Rule) (N : ℕ) (ds ps Ds : List ℕ) (ns : List ℤ) (r : Verdict) : Type 0 where
   pub answer : answerOf r ≡ longTests rule N ds ps Ds ns
   pub accepted : r ≡ Accepted → LongStands rule N ds ps Ds ns
   pub stands : LongStands rule N ds ps Ds ns → r ≡ Accepted

@@ -8,7 +8,7 @@ ghost use Rattle.verdict.specs.Answer.{answerOf};
 ghost use Rattle.fit_theory.specs.Stands.{Posted};
 ghost use Rattle.long_theory.specs.Long.{LongProper};
 ghost use Rattle.long_theory.specs.Tests.{longFitTests, longProposalTests};
-ghost use Rattle.long_judging.specs.Answers.{LongAnswer};
+ghost use Rattle.long_judging.specs.Answers.{LongJudged};
 
 // 22, 14, 23: what is asked once counts and ranges pass.
 fn check_long_fit(
@@ -63,7 +63,7 @@ pub fn judge_long(
     d: &[u32],
     digits: &[i64],
 ) -> Verdict
-    ensures { λ r. ⌜ LongAnswer rule n (now (distances .entry)) (now (parents .entry)) (now (d .entry)) (now (digits .entry)) r ⌝ }
+    ensures { λ r. ⌜ LongJudged rule n (now (distances .entry)) (now (parents .entry)) (now (d .entry)) (now (digits .entry)) r ⌝ }
 {
     let posted = posting::check_posting(n, distances, parents);
     if let Verdict::Refused(refusal) = posted {
