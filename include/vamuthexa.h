@@ -7,9 +7,10 @@
  * Nothing is kept between two calls: no function has memory of its own but the stack, so any number of threads may
  * call any of them at once, as long as no buffer that one of them writes is lent to another.
  *
- * Tables are on the stack. A verdict takes 23,400 bytes of it, a print of a sheet at most 34,700, newick_print 33,500,
- * newick_read 45,100 and each of the others less, as measured with the largest sheets and the deepest trees; 64 KiB are
- * enough for a thread that calls any of them (bench/RESULTS.md, What an entry takes of the stack).
+ * Tables are on the stack. A verdict on a long sheet takes 75,200 bytes of it, one on a sheet 26,900, a print of a sheet
+ * at most 37,200, newick_print 37,000, newick_read 45,100 and each of the others less, as measured with the largest
+ * sheets and the deepest trees; 128 KiB are enough for a thread that calls any of them, and 64 KiB for one that calls
+ * neither verdict on a long sheet (bench/RESULTS.md, What an entry takes of the stack).
  *
  * Each function says what to link with; where several archives are wanted, in any order. */
 #ifndef VAMUTHEXA_H
@@ -49,8 +50,8 @@ enum vamuthexa_number {
     VAMUTHEXA_PARENT = 9,         /* a parent not greater than its child or below N */
     VAMUTHEXA_CHILDREN = 10,      /* an inner vertex with too few children */
     VAMUTHEXA_EDGES = 11,         /* K not V-1 */
-    VAMUTHEXA_DENOMINATOR = 12,   /* D not 1 to 1,000,000; long, not 1 to 52 digits, a digit no digit, or D zero */
-    VAMUTHEXA_NUMERATOR = 13,     /* a numerator beyond its range; long, also a digit no digit, or of both signs */
+    VAMUTHEXA_DENOMINATOR = 12,   /* D not 1 to 1,000,000; long: not 1 to 52 digits, one above 999,999, or D zero */
+    VAMUTHEXA_NUMERATOR = 13,     /* a numerator beyond its range; long: also a digit beyond its own, or both signs */
     VAMUTHEXA_REMAINDERS = 14,    /* some edge's sum of remainders is not zero: not the fit */
     VAMUTHEXA_BUFFER = 15,        /* a lent result buffer not of the exact length; never for a sheet */
     VAMUTHEXA_PAST_ROOT = 16,     /* a parent above V-1; of 9 and 16 the one at the lowest vertex */
