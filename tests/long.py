@@ -19,7 +19,7 @@ complement. The highest digit and the highest level come first.
                                  its words; and pairs of a sheet and a long sheet with the same lengths, which must get the same numbers"""
 import copy
 import functools
-import math
+import os
 import random
 import struct
 import subprocess
@@ -726,6 +726,17 @@ def every_small_change(rng):
             yield whole[:k] + bytes([x]) + whole[k + 1:]
 
 
+def examples():
+    folder = os.path.join(os.path.dirname(os.path.abspath(__file__)), "..", "examples")
+    names = sorted(name for name in os.listdir(folder) if name.endswith(".long"))
+    return [open_bytes(os.path.join(folder, name)) for name in names]
+
+
+def open_bytes(path):
+    with open(path, "rb") as file:
+        return file.read()
+
+
 # ---- a sheet and a long sheet with the same lengths
 def twins(rng, count):
     """Pairs that must get the same numbers: what is hurt is in both forms, and the ranges of both pass."""
@@ -816,7 +827,7 @@ LEAST = 40
 
 def drive(words):
     rng, tally, began = random.Random(30_393), Tally(), time.monotonic()
-    made = list(sheets(rng, tally)) + list(every_small_change(rng))
+    made = list(sheets(rng, tally)) + list(every_small_change(rng)) + examples()
     lines = seen_by(words, [(4, data) for data in made])
     pairs = list(twins(random.Random(5_187), 4_000))
     both = seen_by(words, [(kind, data) for pair in pairs for kind, data in zip((3, 4), pair)])
