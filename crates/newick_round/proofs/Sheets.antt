@@ -163,7 +163,7 @@ module _ (s : List ℕ) (passed : namedTests s ≡ pass) (near : (i : ℕ) → i
       allowed =
           let judged = judgeTests Plain (strainsOf s) (distancesOf s) (parentsOf s) (denominatorOf s) (numeratorsOf s) in
           let behind = orElse-pass (matrixTests (strainsOf s) (distancesOf s)) (test 8 (strainsDiffer s) orElse judged) held .1 in
-          →stands Plain (strainsOf s) (distancesOf s) (parentsOf s) (denominatorOf s) (numeratorsOf s) (orElse-pass (test 8 (strainsDiffer s)) judged behind .1) .tree
+          →stands Plain (strainsOf s) (distancesOf s) (parentsOf s) (denominatorOf s) (numeratorsOf s) (orElse-pass (test 8 (strainsDiffer s)) judged behind .1) .fitted .posted .tree
 
       tree-passes : treeTests (strainsOf s) (parentsOf s) ≡ pass
       tree-passes = →allowed (strainsOf s) (parentsOf s) allowed
