@@ -18,14 +18,15 @@ enum {
     TEXT = VAMUTHEXA_TEXT_SIZE,
     LENGTHS = 6 + 6 + 8 * K, /* the bytes of the third record */
     PAINT = 0xa5,
-    STACK = 48 * 1024
+    LEVELS = 52,
+    STACK = 128 * 1024
 };
 
 static uint8_t *stack;
 static ucontext_t here, there;
 static void (*entry)(void);
 
-static uint8_t sheet[VAMUTHEXA_MAX_NAMED_SHEET], names[6 + 11 * N], name_bytes[10 * N], parents[K], parents_read[K];
+static uint8_t sheet[VAMUTHEXA_MAX_NAMED_SHEET], long_sheet[VAMUTHEXA_MAX_LONG_SHEET], names[6 + 11 * N], name_bytes[10 * N], parents[K], parents_read[K];
 static uint8_t matrix[TEXT], tree[TEXT], page[VAMUTHEXA_TREE_PAGE];
 static uint16_t distances[PAIRS];
 static int64_t thousandths[K], numerators[K], rounded[K];
@@ -35,6 +36,8 @@ static size_t matrix_length, tree_length, printed;
 static void nothing(void) {}
 static void verdict(void) { number = sheet_verdict(sheet, VAMUTHEXA_MAX_SHEET); }
 static void verdict0(void) { number = sheet_verdict0(sheet, VAMUTHEXA_MAX_SHEET); }
+static void long_one(void) { number = long_verdict(long_sheet, VAMUTHEXA_MAX_LONG_SHEET); }
+static void long_one0(void) { number = long_verdict0(long_sheet, VAMUTHEXA_MAX_LONG_SHEET); }
 static void print(void) { printed = sheet_print(sheet, VAMUTHEXA_MAX_SHEET, page, VAMUTHEXA_PAGE); }
 static void print0(void) { printed = sheet_print0(sheet, VAMUTHEXA_MAX_SHEET, page, VAMUTHEXA_PAGE); }
 static void unfitted(void) { printed = unfitted_print(sheet, VAMUTHEXA_MAX_SHEET - LENGTHS, page, VAMUTHEXA_PAGE); }
@@ -60,6 +63,7 @@ static const struct {
     void (*call)(void);
     int prints; /* whether it gives a length, not a number */
 } entries[] = {
+    {"long_verdict", long_one, 0},     {"long_verdict0", long_one0, 0},
     {"sheet_verdict", verdict, 0},     {"sheet_verdict0", verdict0, 0},  {"sheet_print", print, 1},
     {"sheet_print0", print0, 1},       {"unfitted_print", unfitted, 1},  {"resolved_lengths", resolved, 0},
     {"phylip_write", write_matrix, 0}, {"phylip_read", read_matrix, 0},  {"newick_print", print_tree, 1},
@@ -89,6 +93,7 @@ static size_t taken(void (*call)(void)) {
 /* Sheets, matrix and tree of one shape: the sheet is accepted with its names and without. */
 static void make(int shape) {
     size_t at = write_sheet(N, shape, sheet);
+    write_long_sheet(N, shape, LEVELS, long_sheet);
     memcpy(parents, sheet + 6 + 2 + N * (N - 1) + 6 + 4, K);
     size_t end = put(names, sizeof names - 6, 4);
     end += put(names + end, 5, 2);
@@ -123,10 +128,12 @@ int main(void) {
             make(shape);
             if (state == 1) {
                 put(sheet + 8, VAMUTHEXA_MISSING, 2); /* no distance 01 */
+                put(long_sheet + 8, VAMUTHEXA_MISSING, 2);
             } else if (state == 2) {
-                sheet[4] = 9; /* 3 */
+                sheet[4] = long_sheet[4] = 9; /* 3 */
             } else if (state == 3) {
                 sheet[VAMUTHEXA_MAX_SHEET - 8] ^= 1; /* 14 */
+                long_sheet[VAMUTHEXA_MAX_LONG_SHEET - 4] ^= 1;
             }
             for (int e = 0; e < ENTRIES; e++) {
                 size_t bytes = taken(entries[e].call) - base;
@@ -148,6 +155,7 @@ int main(void) {
     size_t length = 77;
     int fine = deep < most[ENTRIES - 1] && number == VAMUTHEXA_NEWICK;
     fine &= sheet_verdict(NULL, 0) == VAMUTHEXA_RECORD_CUT && sheet_verdict0(NULL, 0) == VAMUTHEXA_RECORD_CUT;
+    fine &= long_verdict(NULL, 0) == VAMUTHEXA_RECORD_CUT && long_verdict0(NULL, 0) == VAMUTHEXA_RECORD_CUT;
     fine &= sheet_print(NULL, 0, page, VAMUTHEXA_PAGE) == 17 && memcmp(page, "refused 2 byte 0\n", 17) == 0;
     fine &= sheet_print0(NULL, 0, page, VAMUTHEXA_PAGE) == 17 && unfitted_print(NULL, 0, page, VAMUTHEXA_PAGE) == 17;
     fine &= newick_print(NULL, 0, page, VAMUTHEXA_TREE_PAGE) == 17;

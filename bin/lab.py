@@ -15,6 +15,10 @@ FARTHEST = 50_000
 MISSING = 65_535
 MOST_DENOMINATOR = 1_000_000
 MOST_NUMERATOR = 100_000_000_000
+# of a long sheet: what its digits count to, how many a number may have, and how many units a length
+BASE = 1_000_000
+MOST_DIGITS = 52
+LONGEST_LENGTH = 100_000_000
 NAME_BYTES = 10
 USUAL_UNIT = "0.0001"
 # what stands in a matrix for a pair that nobody measured
@@ -756,10 +760,15 @@ def paths_by_direction(n, directions):
     return paths
 
 
+def lowest_terms(lengths):
+    """The lowest common denominator and the numerators."""
+    denominator = math.lcm(*(length.denominator for length in lengths))
+    return denominator, [int(length * denominator) for length in lengths]
+
+
 def over_one_denominator(lengths):
     """The lowest common denominator and the numerators, where a sheet can hold them."""
-    denominator = math.lcm(*(length.denominator for length in lengths))
-    numerators = [int(length * denominator) for length in lengths]
+    denominator, numerators = lowest_terms(lengths)
     if denominator > MOST_DENOMINATOR:
         raise BeyondASheet(f"the lengths have the lowest common denominator {denominator:,}, "
                            f"and a sheet takes up to {MOST_DENOMINATOR:,}")
@@ -767,6 +776,20 @@ def over_one_denominator(lengths):
         if abs(numerator) > MOST_NUMERATOR:
             raise BeyondASheet(f"over {denominator:,} a length has the numerator {numerator:,}, "
                                f"and a sheet takes up to {MOST_NUMERATOR:,} on either side")
+    return denominator, numerators
+
+
+def over_a_long_denominator(lengths):
+    """The same where a long sheet can hold them."""
+    denominator, numerators = lowest_terms(lengths)
+    for length in lengths:
+        if abs(length) > LONGEST_LENGTH:
+            raise BeyondASheet(f"a length has more than {LONGEST_LENGTH:,} units, and a long sheet takes no more on either side")
+    most = BASE ** MOST_DIGITS
+    for number in [denominator] + numerators:
+        if abs(number) >= most:
+            raise BeyondASheet(f"over their lowest common denominator the lengths need a number of {len(str(abs(number)))} decimals, "
+                               f"and a long sheet takes {len(str(most - 1))}")
     return denominator, numerators
 
 
@@ -792,6 +815,20 @@ def tree_record(n, parents):
 
 def lengths_record(denominator, numerators):
     return record(3, struct.pack(f"<IH{len(numerators)}q", denominator, len(numerators), *numerators))
+
+
+def long_lengths_record(denominator, numerators):
+    """With as few digits as hold every number; the highest come first, and each digit of a numerator has its sign."""
+    digits, most = 1, max(denominator, *map(abs, numerators))
+    while most >= BASE ** digits:
+        digits += 1
+    levels = [BASE ** k for k in reversed(range(digits))]
+    body = struct.pack("<HH", digits, len(numerators))
+    body += struct.pack(f"<{digits}I", *(denominator // level % BASE for level in levels))
+    for level in levels:
+        places = (abs(numerator) // level % BASE for numerator in numerators)
+        body += struct.pack(f"<{len(numerators)}i", *(-x if numerator < 0 else x for x, numerator in zip(places, numerators)))
+    return record(4, body)
 
 
 # ---- standard output and standard error

@@ -1,15 +1,16 @@
-/* The verdict on a sheet, the direct fit of a resolved tree, the prints of sheets, PHYLIP's square matrices, and trees
- * in text, for programs in C and C++ on x86-64. docs/RULES.md lays out the bytes of a sheet (The sheet, The sheet with
- * names) and the texts, and says what each number means.
+/* The verdict on a sheet and on a long sheet, the direct fit of a resolved tree, the prints of sheets, PHYLIP's square
+ * matrices, and trees in text, for programs in C and C++ on x86-64. docs/RULES.md lays out the bytes of a sheet (The
+ * sheet, The sheet with names, The long sheet) and the texts, and says what each number means.
  *
  * Every function is proved: it answers whatever it is lent, and reads and writes nothing outside that. A pointer may
  * be null where its length is 0, which bench/stack.c tries of each; the `length` that two writers fill may not be.
  * Nothing is kept between two calls: no function has memory of its own but the stack, so any number of threads may
  * call any of them at once, as long as no buffer that one of them writes is lent to another.
  *
- * Tables are on the stack. A verdict takes 26,900 bytes of it, a print of a sheet at most 37,200, newick_print 37,000,
- * newick_read 42,100 and each of the others less, as measured with the largest sheets and the deepest trees; 64 KiB are
- * enough for a thread that calls any of them (bench/RESULTS.md, What an entry takes of the stack).
+ * Tables are on the stack. A verdict on a long sheet takes 75,200 bytes of it, one on a sheet 26,900, a print of a sheet
+ * at most 37,200, newick_print 37,000, newick_read 42,100 and each of the others less, as measured with the largest
+ * sheets and the deepest trees; 128 KiB are enough for a thread that calls any of them, and 64 KiB for one that calls
+ * neither verdict on a long sheet (bench/RESULTS.md, What an entry takes of the stack).
  *
  * Each function says what to link with; where several archives are wanted, in any order. */
 #ifndef VAMUTHEXA_H
@@ -23,12 +24,14 @@ extern "C" {
 #endif
 
 /* What a caller may make room for: the most strains, the most edges of their tree, and the most bytes of a sheet that
- * can be accepted, without names and with them. One byte more is enough to know that a sheet is too long. */
+ * can be accepted, without names and with them, and of a long one. One byte more is enough to know that a sheet is too
+ * long. */
 enum {
     VAMUTHEXA_MAX_STRAINS = 64,
-    VAMUTHEXA_MAX_EDGES = 125,       /* 2N - 3 */
-    VAMUTHEXA_MAX_SHEET = 5187,      /* 6 + 4,034 for the matrix, 6 + 129 for the tree, 6 + 1,006 for the lengths */
-    VAMUTHEXA_MAX_NAMED_SHEET = 5897 /* and 6 + 704 for the names */
+    VAMUTHEXA_MAX_EDGES = 125,        /* 2N - 3 */
+    VAMUTHEXA_MAX_SHEET = 5187,       /* 6 + 4,034 for the matrix, 6 + 129 for the tree, 6 + 1,006 for the lengths */
+    VAMUTHEXA_MAX_NAMED_SHEET = 5897, /* and 6 + 704 for the names */
+    VAMUTHEXA_MAX_LONG_SHEET = 30393  /* 6 + 26,212 for long lengths of 52 digits each, in place of 6 + 1,006 */
 };
 
 /* In a matrix: nobody measured this pair. Any pair may be missing, as long as every edge parts one that is not. */
@@ -36,7 +39,7 @@ enum { VAMUTHEXA_MISSING = 65535 };
 
 enum vamuthexa_number {
     VAMUTHEXA_ACCEPTED = 0,
-    VAMUTHEXA_SHEET_TOO_LONG = 1, /* sheet above 5,187 bytes; with names, above 5,897 */
+    VAMUTHEXA_SHEET_TOO_LONG = 1, /* sheet above 5,187 bytes; with names, above 5,897; a long sheet, above 30,393 */
     VAMUTHEXA_RECORD_CUT = 2,     /* fewer bytes left than a record's head or body needs */
     VAMUTHEXA_WRONG_KIND = 3,     /* kind not the one due */
     VAMUTHEXA_WRONG_COUNTS = 4,   /* body too short for its counts, V = 0, or length not as they say */
@@ -47,8 +50,8 @@ enum vamuthexa_number {
     VAMUTHEXA_PARENT = 9,         /* a parent not greater than its child or below N */
     VAMUTHEXA_CHILDREN = 10,      /* an inner vertex with too few children */
     VAMUTHEXA_EDGES = 11,         /* K not V-1 */
-    VAMUTHEXA_DENOMINATOR = 12,   /* D not 1 to 1,000,000 */
-    VAMUTHEXA_NUMERATOR = 13,     /* a numerator beyond its range */
+    VAMUTHEXA_DENOMINATOR = 12,   /* D not 1 to 1,000,000; long: not 1 to 52 digits, one above 999,999, or D zero */
+    VAMUTHEXA_NUMERATOR = 13,     /* a numerator beyond its range; long: also a digit beyond its own, or both signs */
     VAMUTHEXA_REMAINDERS = 14,    /* some edge's sum of remainders is not zero: not the fit */
     VAMUTHEXA_BUFFER = 15,        /* a lent result buffer not of the exact length; never for a sheet */
     VAMUTHEXA_PAST_ROOT = 16,     /* a parent above V-1; of 9 and 16 the one at the lowest vertex */
@@ -69,6 +72,13 @@ uint32_t sheet_verdict(const uint8_t *sheet, size_t length);
 /* The same where no length may be negative: the lengths are the best fit among those that are zero or more. Then the
  * numbers 22 and 23 are given too, and 14 is asked of edges with a positive length only. */
 uint32_t sheet_verdict0(const uint8_t *sheet, size_t length);
+
+/* The number of a long sheet, whose lengths are over a denominator of up to 52 digits to the base 1,000,000: records of
+ * kinds 1, 2 and 4. A sheet whose lengths are of kind 3 gets 3. Link with liblong_sheet.a. */
+uint32_t long_verdict(const uint8_t *sheet, size_t length);
+
+/* The same where no length may be negative. */
+uint32_t long_verdict0(const uint8_t *sheet, size_t length);
 
 /* The bytes of a page. Every print of a sheet fits one; the text of a tree has a page of its own size, below. */
 enum { VAMUTHEXA_PAGE = 16384 };
