@@ -617,6 +617,23 @@ def put_to_zero(page, rng):
     return page.data()
 
 
+@way(4)
+def moved_by_a_power_of_two(page, rng):
+    """A numerator or the denominator moved by a multiple of a power of two: every sum is then off by a multiple of it."""
+    by = rng.choice((1, -1, 3)) << rng.choice((16, 31, 32, 63, 64, 64, 65, 128))
+    v = rng.randrange(-1, page.k)
+    denominator = abs(page.denominator + by) if v < 0 else page.denominator
+    numerators = [x + (by if v == k else 0) for k, x in enumerate(page.numerators)]
+    # a length may be no longer than before where it is to pass 13
+    if max(map(abs, numerators)) > LONGEST * denominator:
+        factor = abs(by)
+        denominator, numerators = page.denominator * factor, [x * factor for x in page.numerators]
+        numerators[v] += by
+    if denominator and levels_for(denominator, numerators) <= MAX_LEVELS:
+        page.set_lengths(denominator, numerators)
+        return page.data()
+
+
 @way(2)
 def digits_of_any_kind(page, rng):
     """Digits drawn level by level, all small, all at their limit, or of one sign an edge."""
@@ -626,6 +643,18 @@ def digits_of_any_kind(page, rng):
         digits[:] = [sign * rng.choice(((0, 1), (999_999,), (0, 1, 999_999, rng.randrange(BASE)))[kind]) for _ in digits]
     if rng.random() < 0.5:
         page.top = [999_999] * page.levels
+    return page.data()
+
+
+IN_TURN = (unseen_edge, a_distance, hurt_tree, strains, set_digit, hurt_denominator, edges_followed, levels_followed, kinds, body_longer)
+
+
+@way(8)
+def several_faults(page, rng):
+    """Two or three at once, of which the first in the order of the tests counts."""
+    chosen = rng.sample(range(len(IN_TURN)), rng.choice((2, 2, 3)))
+    for k in sorted(chosen):
+        IN_TURN[k](page, rng)
     return page.data()
 
 
