@@ -35,20 +35,26 @@ fn column(
     }
 }
 
-// The distances of n strains, whose rows start at `at`, each at its place in the matrix; then zeros.
-pub fn distances(s: &[u8], at: usize, n: usize, count: usize) -> [u16; Matrix::MAX_PAIRS]
+// Reads the distances of n strains, whose rows start at `at`, into a table of zeros: each goes to its place in the matrix, and the zeros behind
+// the last stay.
+pub fn distances_into(
+    s: &[u8],
+    at: usize,
+    n: usize,
+    count: usize,
+    held: &mut [u16; Matrix::MAX_PAIRS],
+)
     requires { ⌜ (n ≤ maxStrains) × (count ≡ pairCount n) × (at + 2 * count ≤ length (now s)) ⌝ }
-    ensures { λ r. ⌜ r ≡ padded 0 maxPairs count (fromRows n (λ k. number 2 (now (s .entry)) (at + 2 * k))) ⌝ }
+    requires { ⌜ now held ≡ table maxPairs (λ _. 0) ⌝ }
+    ensures { λ _. ⌜ now (held .exit) ≡ padded 0 maxPairs count (fromRows n (λ k. number 2 (now (s .entry)) (at + 2 * k))) ⌝ }
 {
-    let mut held = matrix::no_distances();
     let mut j = 1;
     let mut first = 0;
     while first < count {
-        column(s, at, n, j, first, &mut held);
+        column(s, at, n, j, first, held);
         first += j;
         j += 1;
     }
-    held
 }
 
 // The numerators that start at `at`, then zeros.

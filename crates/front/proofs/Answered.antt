@@ -57,8 +57,8 @@ module _ (count : ℕ) (s : List ℕ) (z : pairTests count s ≡ pass) where
       omega (arith, pair-shaped .tree .most, pair-shaped .tree .few)
 
 -- ---- a refusal has zeros everywhere
-module _ (count : ℕ) (s : List ℕ) (x : Front) where
-  refused-by : (r : Refusal) → (x .verdict ≡ Refused r) × Blank x → pairTests count s ≡ refusalOf r → FrontAnswer count s x
+module _ (count : ℕ) (s ds : List ℕ) (x : Front) where
+  refused-by : (r : Refusal) → (x .verdict ≡ Refused r) × Blank x → pairTests count s ≡ refusalOf r → FrontAnswer count s ds x
   refused-by r e f = record {
     answer = ap answerOf (e .0) ∙ sym f;
     held = λ z. absurd (not-pass r (sym f ∙ z));
@@ -74,14 +74,14 @@ module _ (count : ℕ) (s : List ℕ) (x : Front) where
         lt-ltb maxStrains (strainsOf s) h,
       )
 
-  pub many-strains : (n : ℕ) → n ≡ strainsOf s → maxStrains < n → (x .verdict ≡ Refused (record { reason = Strains; place = Nowhere })) × Blank x → FrontAnswer count s x
+  pub many-strains : (n : ℕ) → n ≡ strainsOf s → maxStrains < n → (x .verdict ≡ Refused (record { reason = Strains; place = Nowhere })) × Blank x → FrontAnswer count s ds x
   many-strains n e h f =
       refused-by (record { reason = Strains; place = Nowhere }) f
       (ap (λ (k : Answer). k orElse test 8 (strainsDiffer s) orElse bothTests count (strainsOf s) (distancesOf s) (parentsOf s)) (many (omega arith)))
 
   module _ (v : Verdict) (f : answerOf v ≡ pairTests count s) where
-    pub pair-refused : (r : Refusal) → v ≡ Refused r → (x .verdict ≡ Refused r) × Blank x → FrontAnswer count s x
+    pub pair-refused : (r : Refusal) → v ≡ Refused r → (x .verdict ≡ Refused r) × Blank x → FrontAnswer count s ds x
     pair-refused r g e = refused-by r e (sym f ∙ ap answerOf g)
 
-    pub pair-held : v ≡ Accepted → x .verdict ≡ Accepted → FrontHeld s x → FrontAnswer count s x
+    pub pair-held : v ≡ Accepted → x .verdict ≡ Accepted → FrontHeld s ds x → FrontAnswer count s ds x
     pair-held g e h = let t = sym f ∙ ap answerOf g in record { answer = ap answerOf e ∙ sym t; held = λ _. h; blank = λ n. absurd (n t) }

@@ -1,4 +1,4 @@
--- For a caller of `read_front`: what its parts are, where it accepts. The matrix stands at the front of its array, the parents are a part of
+-- For a caller of `read_front`: what its parts are, where it accepts. The matrix stands at the front of the lent table, the parents are a part of
 -- the bytes.
 use mathlib.Core.Path.{_≡_, refl, sym, ap, ap₂, _∙_}
 use mathlib.Core.List.{List}
@@ -21,37 +21,37 @@ use Rattle.front.specs.Reads.{FrontHeld}
 use Rattle.front.proofs.Formed.{Fronted, fronted, parents-start, parents-count, parents-are}
 use Rattle.front.proofs.Answered.{pair-shaped}
 
-pub record Parts (s : List ℕ) (r : Front) : Type 0 where
+pub record Parts (s ds : List ℕ) (r : Front) : Type 0 where
   pub shaped : Shaped (strainsOf s) (distancesOf s) (parentsOf s)
   pub strains : r .strains ≡ strainsOf s
-  pub room : r .pairs ≤ length (r .distances)
-  pub size : r .pairs ≡ length (take (r .pairs) (r .distances))
-  pub distances : take (r .pairs) (r .distances) ≡ distancesOf s
+  pub room : r .pairs ≤ length ds
+  pub size : r .pairs ≡ length (take (r .pairs) ds)
+  pub distances : take (r .pairs) ds ≡ distancesOf s
   pub starts : r .parents ≤ r .end
   pub ends : r .end ≤ length s
   pub parents : take (r .end - r .parents) (drop (r .parents) s) ≡ parentsOf s
   pub count : r .end - r .parents ≡ length (parentsOf s)
 
-module _ (count : ℕ) (s : List ℕ) (w : recordsTests s 2 ≡ pass) (z : pairTests count s ≡ pass) (r : Front) (h : FrontHeld s r) where
+module _ (count : ℕ) (s : List ℕ) (w : recordsTests s 2 ≡ pass) (z : pairTests count s ≡ pass) (ds : List ℕ) (r : Front) (h : FrontHeld s ds r) where
   here : Fronted s (startOf s 1) (startOf s 2)
   here = fronted 2 s (omega arith) w (startOf s 1) (startOf s 2) refl refl
 
   shaped : Shaped (strainsOf s) (distancesOf s) (parentsOf s)
   shaped = pair-shaped count s z
 
-  kept : r .distances ≡ padded 0 maxPairs (r .pairs) (distanceAt s)
+  kept : ds ≡ padded 0 maxPairs (r .pairs) (distanceAt s)
   kept = h .distances ∙ ap (λ (k : ℕ). padded 0 maxPairs k (distanceAt s)) (sym (h .pairs))
 
   edge-count : r .end - r .parents ≡ verticesOf s - 1
   edge-count = ap₂ _-_ (h .end) (h .parents) ∙ parents-count here
 
-  pub parts : Parts s r
+  pub parts : Parts s ds r
   parts = record {
     shaped = shaped;
     strains = h .strains;
-    room = front-there 0 maxPairs (r .pairs) (distanceAt s) (r .distances) kept (omega (arith, h .pairs, pairs-few (strainsOf s) (shaped .matrix .few)));
-    size = front-length 0 maxPairs (r .pairs) (distanceAt s) (r .distances) kept;
-    distances = front-is 0 maxPairs (r .pairs) (distanceAt s) (r .distances) kept ∙ ap (λ (k : ℕ). table k (distanceAt s)) (h .pairs);
+    room = front-there 0 maxPairs (r .pairs) (distanceAt s) ds kept (omega (arith, h .pairs, pairs-few (strainsOf s) (shaped .matrix .few)));
+    size = front-length 0 maxPairs (r .pairs) (distanceAt s) ds kept;
+    distances = front-is 0 maxPairs (r .pairs) (distanceAt s) ds kept ∙ ap (λ (k : ℕ). table k (distanceAt s)) (h .pairs);
     starts = rw (h .parents, h .end) (parents-start here);
     ends = rw (h .end) (here .there);
     parents = ap₂ (λ (a e : ℕ). take (e - a) (drop a s)) (h .parents) (h .end) ∙ parents-are here;

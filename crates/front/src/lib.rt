@@ -9,18 +9,19 @@ use verdict::Verdict;
 ghost use mathlib.Core.Path.{_≡_};
 ghost use mathlib.Core.Bool.{not};
 ghost use lib.Dec.{eqb};
+ghost use Rattle.exact.specs.Table.{table};
 ghost use Rattle.verdict.specs.Answer.{pass, answerOf, test, _orElse_};
+ghost use Rattle.matrix.specs.Limits.{maxPairs};
 ghost use Rattle.matrix.specs.Tests.{matrixTests};
 ghost use Rattle.records.specs.Form.{startOf, recordsTests};
 ghost use Rattle.front.specs.Tests.{bothTests};
 ghost use Rattle.front.specs.Reads.{Blank, FrontAnswer};
 
-// What the two records hold: N and the distances, then zeros; where the parents of the tree start and end among the bytes.
+// What the two records hold beside the distances: N and how many pairs; where the parents of the tree start and end among the bytes.
 pub struct Front {
     pub verdict: Verdict,
     pub strains: u32,
     pub pairs: usize,
-    pub distances: [u16; Matrix::MAX_PAIRS],
     pub parents: usize,
     pub end: usize,
 }
@@ -53,17 +54,23 @@ fn refused(refusal: Refusal) -> Front
         verdict: Verdict::Refused(refusal),
         strains: 0,
         pairs: 0,
-        distances: matrix::no_distances(),
         parents: 0,
         end: 0,
     }
 }
 
 // What the matrix and the tree of a sheet of so many records hold, of which the tree starts at `tree` and ends at `end`: 6 to 10, 16, 26.
-// More strains than a matrix may have are refused before a distance is read.
-pub fn read_front(s: &[u8], count: usize, tree: usize, end: usize) -> Front
+// The distances go to the front of a lent table of zeros. More strains than a matrix may have are refused before a distance is read.
+pub fn read_front(
+    s: &[u8],
+    count: usize,
+    tree: usize,
+    end: usize,
+    distances: &mut [u16; Matrix::MAX_PAIRS],
+) -> Front
     requires { ⌜ (recordsTests (now s) 2 ≡ pass) × (tree ≡ startOf (now s) 1) × (end ≡ startOf (now s) 2) ⌝ }
-    ensures { λ r. ⌜ FrontAnswer count (now (s .entry)) r ⌝ }
+    requires { ⌜ now distances ≡ table maxPairs (λ _. 0) ⌝ }
+    ensures { λ r. ⌜ FrontAnswer count (now (s .entry)) (now (distances .exit)) r ⌝ }
 {
     let n = endian::u16_at(s, Layout::HEAD) as u32;
     let strains = n as usize;
@@ -74,10 +81,11 @@ pub fn read_front(s: &[u8], count: usize, tree: usize, end: usize) -> Front
         });
     }
     let pairs = matrix::pair_count(n) as usize;
-    let measured = decoding::distances(s, Layout::HEAD + 2, strains, pairs);
+    decoding::distances_into(s, Layout::HEAD + 2, strains, pairs, distances);
     let body = tree + Layout::HEAD;
     let of_tree = endian::u16_at(s, body) as u32;
     let parents = body + 4;
+    let measured = &distances[..];
     let of_pair = posted(count, n, of_tree, &measured[..pairs], &s[parents..end]);
     if let Verdict::Refused(refusal) = of_pair {
         return refused(refusal);
@@ -86,7 +94,6 @@ pub fn read_front(s: &[u8], count: usize, tree: usize, end: usize) -> Front
         verdict: Verdict::Accepted,
         strains: n,
         pairs,
-        distances: measured,
         parents,
         end,
     }

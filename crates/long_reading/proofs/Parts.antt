@@ -29,13 +29,13 @@ use Rattle.long_reading.specs.LongHolds.{levelsOf, longEdgesOf, denomina
 use Rattle.long_reading.specs.LongTests.{longEdgesDiffer, levelsOut, longCountsTests, longReadTests}
 use Rattle.long_reading.specs.LongReads.{LongHeld, LongAnswer}
 
--- what is front's of a long sheet
+-- what is front's of a long sheet, beside the distances
 abbrev pub front-of : LongSheet → Front
-front-of r = record { verdict = r .verdict; strains = r .strains; pairs = r .pairs; distances = r .distances; parents = r .parents; end = r .end }
+front-of r = record { verdict = r .verdict; strains = r .strains; pairs = r .pairs; parents = r .parents; end = r .end }
 
 pub record Parts (s : List ℕ) (r : LongSheet) : Type 0 where
   pub posted : Posted (strainsOf s) (distancesOf s) (parentsOf s)
-  pub front : front.Parts s (front-of r)
+  pub front : front.Parts s (r .distances) (front-of r)
   pub levels : r .levels ≡ levelsOf s
   pub edges : r .edges ≡ longEdgesOf s
   pub some : 1 ≤ r .levels
@@ -87,7 +87,7 @@ module _ (s : List ℕ) (z : longReadTests s ≡ pass) where
     pub parts : Parts s r
     parts = record {
       posted = pair-posted 3 s (omega arith) pair-passes;
-      front = front.parts 3 s (long-pair s form-passes) pair-passes (front-of r)
+      front = front.parts 3 s (long-pair s form-passes) pair-passes (r .distances) (front-of r)
           (record { strains = h .strains; pairs = h .pairs; distances = h .distances; parents = h .parents; end = h .end });
       levels = h .levels;
       edges = h .edges;

@@ -51,7 +51,8 @@ fn held(s: &[u8], tree: usize, end: usize) -> LongSheet
     requires { ⌜ (longFormTests (now s) ≡ pass) × (tree ≡ startOf (now s) 1) × (end ≡ startOf (now s) 2) ⌝ }
     ensures { λ r. ⌜ LongAnswer (now (s .entry)) r ⌝ }
 {
-    let front = front::read_front(s, 3, tree, end);
+    let mut distances = matrix::no_distances();
+    let front = front::read_front(s, 3, tree, end, &mut distances);
     let of_pair = front.verdict;
     if let Verdict::Refused(refusal) = of_pair {
         return refused(refusal);
@@ -77,7 +78,6 @@ fn held(s: &[u8], tree: usize, end: usize) -> LongSheet
             place: Place::Nowhere,
         });
     }
-    let distances = front.distances;
     let denominator = body + 4;
     LongSheet {
         verdict: Verdict::Accepted,

@@ -49,9 +49,9 @@ pub record Lengths (s : List ℕ) (r : Sheet) : Type 0 where
   pub count : r .edges ≡ length (parentsOf s)
   pub few : r .edges ≤ maxEdges
 
--- what is front's of a sheet
+-- what is front's of a sheet, beside the distances
 abbrev front-of : Sheet → Front
-front-of r = record { verdict = r .verdict; strains = r .strains; pairs = r .pairs; distances = r .distances; parents = r .parents; end = r .end }
+front-of r = record { verdict = r .verdict; strains = r .strains; pairs = r .pairs; parents = r .parents; end = r .end }
 
 pub accepted : (count : ℕ) (s : List ℕ) (r : Sheet) → SheetAnswer count s r → r .verdict ≡ Accepted → readTests count s ≡ pass
 accepted count s r a e = sym (a .answer) ∙ ap answerOf e
@@ -76,8 +76,8 @@ module _ (count : ℕ) (s : List ℕ) (z : readTests count s ≡ pass) where
   parent-count = sym (length-table (verticesOf s - 1) _)
 
   module _ (two : 2 ≤ count) (r : Sheet) (h : Held count s r) where
-    of-front : front.Parts s (front-of r)
-    of-front = front.parts count s (fewer-pass s count 2 two (form-records count s form-passes)) pair-passes (front-of r)
+    of-front : front.Parts s (r .distances) (front-of r)
+    of-front = front.parts count s (fewer-pass s count 2 two (form-records count s form-passes)) pair-passes (r .distances) (front-of r)
         (record { strains = h .strains; pairs = h .pairs; distances = h .distances; parents = h .parents; end = h .end })
 
     pub parts : Parts s r

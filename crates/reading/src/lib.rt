@@ -95,7 +95,8 @@ fn held(s: &[u8], count: usize, tree: usize, end: usize) -> Sheet
     requires { ⌜ (2 ≤ count) × (count ≤ maxRecords) × (formTests count (now s) ≡ pass) × (tree ≡ startOf (now s) 1) × (end ≡ startOf (now s) 2) ⌝ }
     ensures { λ r. ⌜ SheetAnswer count (now (s .entry)) r ⌝ }
 {
-    let front = front::read_front(s, count, tree, end);
+    let mut distances = matrix::no_distances();
+    let front = front::read_front(s, count, tree, end, &mut distances);
     let of_pair = front.verdict;
     if let Verdict::Refused(refusal) = of_pair {
         return refused(refusal);
@@ -105,7 +106,6 @@ fn held(s: &[u8], count: usize, tree: usize, end: usize) -> Sheet
     if let Verdict::Refused(refusal) = of_lengths {
         return refused(refusal);
     }
-    let distances = front.distances;
     let numerators = proposed.numerators;
     Sheet {
         verdict: Verdict::Accepted,
