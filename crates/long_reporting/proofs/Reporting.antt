@@ -3,9 +3,11 @@ use mathlib.Core.Path.{_≡_, refl, sym, _∙_, ap, subst}
 use mathlib.Core.Bool.{Bool, true, false, cond, true≢false}
 use mathlib.Core.List.{List}
 use Prim.Native.Nat.{ℕ, zero, suc, _+_, _*_, _-_, _≤_, _<_}
+use native.Mathlib.Decide.{ℕ-discrete}
 use native.Mathlib.Omega.{arith}
 use lib.IntN.{ℤ, pos, natAbs, _-ℤ_, _*ℤ_}
-use lib.ListN.{length, getD}
+use lib.ListN.{length, getD, set}
+use lib.Seq.{getD-set-same, getD-set-other}
 use mir.Syntax.{w64}
 use mir.Val.{SFits, toZ, ofZ}
 use Rattle.exact.specs.Order.{_≤ᶻ_}
@@ -34,6 +36,7 @@ use Rattle.pairs.specs.Ready.{Ready}
 use Rattle.long_digits.specs.Digits.{base}
 use Rattle.long_theory.specs.Long.{digitOf, longDenominator, longNumerator, longNumerators, LongProper, LongStands}
 use Rattle.long_sums.specs.Ready.{LongReady}
+use Rattle.long_sums.proofs.Filling.{Filling, fill-start, fill-turn, fill-end}
 use Rattle.long_lengths.specs.Edge.{LongEdge}
 use Rattle.long_rounding.specs.Ready.{LongNear}
 use Rattle.long_numbers.specs.Wides.{Natural, Wides}
@@ -46,6 +49,25 @@ module _ {K : ℕ} {Ds : List ℕ} {ns : List ℤ} (p : LongProper K Ds ns) (v :
 
   pub long-near : LongNear K (length Ds) Ds ns v
   long-near = record { one = p .one; near = p .near v l }
+
+-- ---- the table of rounded lengths, filled edge by edge
+pub record Rounding (K : ℕ) (f : ℕ → ℤ) (v : ℕ) (r : List ℤ) : Type 0 where
+  pub filling : Filling K f v r
+  pub near : (u : ℕ) → u < v → natAbs (entryOf r u) ≤ 100000000001
+
+module _ (K : ℕ) (f : ℕ → ℤ) where
+  pub rounding-start : (r : List ℤ) → r ≡ table maxEdges (λ _. pos 0) → Rounding K f 0 r
+  rounding-start r e = record { filling = fill-start K f r e; near = λ u l. absurd (omega arith) }
+
+  pub rounding-turn : K ≤ maxEdges → (v : ℕ) (r : List ℤ) (y : ℤ) → v < K → y ≡ f v → natAbs y ≤ 100000000001 → Rounding K f v r → Rounding K f (v + 1) (set r v y)
+  rounding-turn few v r y l e h w = record { filling = fill-turn K f few v r y l e (w .filling); near = λ u q. go u q (ℕ-discrete u v) }
+    where
+      go : (u : ℕ) → u < v + 1 → Dec (u ≡ v) → natAbs (entryOf (set r v y) u) ≤ 100000000001
+      go u q (yes p) = omega (arith, ap (λ (i : ℕ). natAbs (entryOf (set r v y) i)) p, ap natAbs (getD-set-same r v y (pos 0) (omega (arith, w .filling .size))), h)
+      go u q (no p) = omega (arith, ap natAbs (getD-set-other r v u y (pos 0) p), w .near u (omega (arith, p, q)))
+
+  pub rounding-end : (v : ℕ) (r : List ℤ) → K ≤ v → Rounding K f v r → EdgeTable K f r × ((u : ℕ) → u < K → natAbs (entryOf r u) ≤ 100000000001)
+  rounding-end v r h w = (fill-end K f v r h (w .filling), λ u l. w .near u (omega arith))
 
 -- ---- the mean square: D times the count that is left, which is what it is over where D is 1
 isNone : Mean → Bool
@@ -138,3 +160,7 @@ module _ (rule : Rule) (N : ℕ) (ds ps Ds : List ℕ) (ns : List ℤ) (s : Long
 
     pub r-fits : Fits63 (sumR (pairs N) K (partsIn ds ps) (distance ds) (entryOf ms))
     r-fits = let (low, high) = r-range rule N ds ps D n (s .fitted) in subst Fits63 (sym r-same) (record { low = low; high = ≤-trans high (record { le = tt }) })
+
+-- the count that is left is small
+pub left-small : {N : ℕ} {ds : List ℕ} (K : ℕ) → Proper N ds → pairCount N - K ≤ 2016
+left-small K m = ?
