@@ -13,6 +13,7 @@ use mir.Syntax.{w64}
 use mir.Val.{SFits, toZ, ofZ}
 use mir.Facts.{toZ-ofZ}
 use Rattle.exact.specs.LeastSquares.{path, hops}
+use Rattle.exact.specs.Fits.{Fits63}
 use Rattle.exact.specs.Order.{_≤ᶻ_}
 use Rattle.exact.proofs.Order.{≤-pos}
 use Rattle.exact.proofs.Sign.{fits-abs}
@@ -70,3 +71,7 @@ module _ {N K : ℕ} {ds ps cs : List ℕ} {ns : List ℤ} (w : Ready N K 1000 d
 
       pub stray-is : (h : ℕ) → (pos h ≡ hops K (partsPair (parentOf ps)) (i, j)) × (h ≤ maxEdges) → Strayed K ds ps ns (i, j) (toZ w64 (ofZ w64 (offBy ds k p))) h
       stray-is h q = record { off-is = toZ-ofZ off-fits ∙ off-is; edges-is = q .0 ∙ sym (measured-hops ds ps (i, j) m K); few = q .1 }
+
+-- a number that fits 63 bits comes back as it went in
+pub fits-of : (z y : ℤ) → z ≡ y → Fits63 y → SFits w64 z
+fits-of z y e f = fits-abs z (omega (arith, ap natAbs e, between y 9223372036854775807 (f .low) (f .high)))

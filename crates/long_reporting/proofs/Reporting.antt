@@ -8,29 +8,33 @@ use native.Mathlib.Omega.{arith}
 use lib.IntN.{ℤ, pos, natAbs, _-ℤ_, _*ℤ_}
 use lib.ListN.{length, getD, set}
 use lib.Seq.{getD-set-same, getD-set-other}
-use mir.Syntax.{w64}
-use mir.Val.{SFits, toZ, ofZ}
+use lib.Dec.{T}
+use lib.Signed.{nonNeg}
+use mir.Syntax.{w32, w64}
+use mir.Val.{Fits, SFits, toZ, ofZ}
 use Rattle.exact.specs.Order.{_≤ᶻ_}
 use Rattle.exact.specs.Sum.{sum, pairs}
 use Rattle.exact.specs.Table.{table, entryOf}
 use Rattle.exact.specs.Fits.{Fits63}
 use Rattle.exact.specs.Nearest.{nearest}
-use Rattle.exact.specs.LeastSquares.{sq, sumF, sumR}
+use Rattle.exact.specs.LeastSquares.{sq, hops, sumF, sumR}
 use Rattle.exact.proofs.Order.{≤-trans, nn-pos}
 use Rattle.exact.proofs.Sign.{back}
-use Rattle.exact.proofs.Sum.{sum-cong, pairs-sums, S-cong}
+use Rattle.exact.proofs.Sum.{sum-cong, pairs-sums, S-cong, S-sq}
 use Rattle.exact.proofs.Fill.{length-table, getD-table}
 use Rattle.exact.proofs.LeastSquares.{path-cong}
 use Rattle.verdict.specs.declared.Rule.{Rule}
 use Rattle.matrix.specs.Place.{distance, pairCount, someMissing}
+use Rattle.matrix.specs.Proper.{Proper}
 use Rattle.matrix.proofs.Completes.{known-near}
+use Rattle.matrix.proofs.Places.{pairs-few}
 use Rattle.mean.specs.declared.Mean.{Mean}
 use Rattle.mean.specs.declared.Mean.the-variants.{None, Over}
 use Rattle.mean.specs.Mean.{times, meanOf}
 use Rattle.tree_theory.specs.Limits.{maxEdges}
 use Rattle.tree_theory.specs.EdgeTable.{EdgeTable}
-use Rattle.fit_theory.specs.Quantities.{partsIn, roundedOf, treeLength, fOf, rOf}
-use Rattle.fit_theory.proofs.Demand3.{least, r-range}
+use Rattle.fit_theory.specs.Quantities.{partsIn, roundedOf, treeLength, fOf, rOf, hOf}
+use Rattle.fit_theory.proofs.Demand3.{least, r-range, h-high}
 use Rattle.paths.specs.Standing.{Standing}
 use Rattle.pairs.specs.Ready.{Ready}
 use Rattle.long_digits.specs.Digits.{base}
@@ -138,6 +142,9 @@ module _ (rule : Rule) (N : ℕ) (ds ps Ds : List ℕ) (ns : List ℤ) (s : Long
   pub total-same : sum K (longNumerator L K ns) ≡ treeLength n
   total-same = sum-cong K (λ v l. sym (n-is v l)) ∙ ap (λ (k : ℕ). sum k (entryOf n)) (sym (length-table K (longNumerator L K ns)))
 
+  pub h-fits : Fits63 (hOf N ds ps)
+  h-fits = record { low = S-sq (pairs-sums N) (hops K (partsIn ds ps)); high = ≤-trans (h-high K (s .lengths .few) (partsIn ds ps) N (s .fitted .posted .matrix .few)) (record { le = tt }) }
+
   -- the rounded lengths
   module _ {ms : List ℤ} (t : EdgeTable K (λ v. nearest D (longNumerator L K ns v)) ms) (near : (v : ℕ) → v < K → natAbs (entryOf ms v) ≤ 100000000001) where
     entry-is : (v : ℕ) → v < K → entryOf ms v ≡ roundedOf D n v
@@ -161,6 +168,19 @@ module _ (rule : Rule) (N : ℕ) (ds ps Ds : List ℕ) (ns : List ℤ) (s : Long
     pub r-fits : Fits63 (sumR (pairs N) K (partsIn ds ps) (distance ds) (entryOf ms))
     r-fits = let (low, high) = r-range rule N ds ps D n (s .fitted) in subst Fits63 (sym r-same) (record { low = low; high = ≤-trans high (record { le = tt }) })
 
--- the count that is left is small
+-- ---- the count that is left, as the code has it
+module _ (z : ℤ) (k : ℕ) (e : z ≡ pos k) (few : k ≤ 2016) where
+  count-back : toZ w64 (ofZ w64 z) ≡ pos k
+  count-back = back z (omega (arith, ap natAbs e)) ∙ e
+
+  pub count-cast : T (nonNeg (toZ w64 (ofZ w64 z))) × Fits w32 (natAbs (toZ w64 (ofZ w64 z)))
+  count-cast = subst (λ (y : ℤ). T (nonNeg y) × Fits w32 (natAbs y)) (sym count-back) (tt, record { fits = omega arith })
+
+  pub count-few : natAbs (toZ w64 (ofZ w64 z)) ≤ 1000000
+  count-few = omega (arith, ap natAbs count-back)
+
+  pub count-is : natAbs (toZ w64 (ofZ w64 z)) ≡ natAbs z
+  count-is = ap natAbs (count-back ∙ sym e)
+
 pub left-small : {N : ℕ} {ds : List ℕ} (K : ℕ) → Proper N ds → pairCount N - K ≤ 2016
-left-small K m = ?
+left-small {N} K m = omega (arith, pairs-few N (m .few))

@@ -33,16 +33,11 @@ use Rattle.lengths.specs.Limits.{maxDenominator, maxNumerator}
 use Rattle.fit_theory.specs.Quantities.{partsIn, roundedOf, treeLength, fOf, rOf, hOf}
 use Rattle.fit_theory.specs.Stands.{Posted, Stands}
 use Rattle.fit_theory.proofs.Demand3.{least, f-range, r-range, h-high}
-use Rattle.fit_numbers.proofs.Back.{between}
 use Rattle.fit_theory.proofs.Ranges.{bounds, rounded-range}
 use Rattle.paths.specs.Standing.{Standing}
 use Rattle.pairs.specs.Ready.{Ready}
 use Rattle.pairs.proofs.Lent as lent
 use Rattle.reporting.specs.Answers.{maxTreeLength}
-
--- a number that fits 63 bits comes back as it went in
-pub fits-of : (z y : ℤ) → z ≡ y → Fits63 y → SFits w64 z
-fits-of z y e f = fits-abs z (omega (arith, ap natAbs e, between y 9223372036854775807 (f .low) (f .high)))
 
 module _ (rule : Rule) (N : ℕ) (ds ps : List ℕ) (D : ℕ) (ns : List ℤ) (s : Stands rule N ds ps D ns) where
   pub posted : Posted N ds ps

@@ -13,7 +13,8 @@ use Rattle.matrix.proofs.Places.{pairs-few}
 use Rattle.lengths.specs.Limits.{maxDenominator}
 use Rattle.fit_theory.proofs.Demand3.{least}
 use Rattle.pairs.proofs.Lent.{standing, ready, in-range}
-use Rattle.reporting.proofs.Numbers.{posted, edges-few, total-near, total-is, fits-of, f-fits, h-fits, ready-rounded, r-same, r-fits, rounded-is}
+use Rattle.fit_numbers.proofs.Back.{fits-of}
+use Rattle.reporting.proofs.Numbers.{posted, edges-few, total-near, total-is, f-fits, h-fits, ready-rounded, r-same, r-fits, rounded-is}
 use borrow.Author.Needs.{needs}
 use Rattle.reporting.proofs.numbered.Statement.{statement}
 use Rattle.reporting.proofs.numbered.Tie as tie
