@@ -10,7 +10,7 @@ use native.Mathlib.Omega.{arith}
 use borrow.Author.Tests.{le-ltb}
 use denote.Floats.{is-true}
 use lib.IntN.{ℤ, pos, negsuc, negℤ, natAbs, _+ℤ_, _-ℤ_, _*ℤ_}
-use lib.ListN.{length, getD, set, length-set}
+use lib.ListN.{length, getD, set, length-set, length-append}
 use lib.Signed.{leZ, ltZ}
 use mir.Syntax.{w64}
 use mir.Val.{SFits, toZ, ofZ}
@@ -20,22 +20,23 @@ use Rattle.exact.proofs.Fill.{Filled, fill-none, fill-more, length-table, getD-
 use Rattle.exact.specs.Order.{_≤ᶻ_, _<ᶻ_}
 use Rattle.exact.proofs.Order.{le-by, nn+, nn*, nn-sub, nn-pos, <-is, is-<, ≤-pos, total}
 use Rattle.exact.proofs.Quote.{by-ring, quote}
-use Rattle.exact.proofs.Sign.{natAbs-neg, is-pos, back}
+use Rattle.exact.proofs.Sign.{natAbs-neg, is-pos, back, back-pos, fits-abs}
 use Rattle.fit_theory.proofs.Zeros.{less-no}
-use Rattle.lines.specs.Lines.{end, fieldsBy, lineBy}
+use Rattle.lines.specs.Lines.{end, edgeWord, fieldsBy, lineBy}
+use Rattle.lines.proofs.Pieces.{and-then}
 use Rattle.long_digits.specs.Digits.{base, value, natural}
 use Rattle.long_digits.specs.Clamp.{clamp, most}
 use Rattle.long_digits.proofs.Values.{value-cong, value-pos}
 use Rattle.long_digits.proofs.Clamps.{sign-below}
-use Rattle.long_theory.specs.Long.{maxLevels, digitOf, longNumerator, OneSign}
+use Rattle.long_theory.specs.Long.{maxLevels, digitOf, longDenominator, longNumerator, OneSign, LongProper}
 use Rattle.long_carrying.specs.Carried.{wideSize}
-use Rattle.long_lengths.specs.Edge.{LongRow, measure}
+use Rattle.long_lengths.specs.Edge.{LongRow, LongEdge, measure}
 use Rattle.writing.specs.Text.{signed, Wrote}
 use Rattle.writing.proofs.Writing.{wrote-then, wrote-length}
 use Rattle.writing.proofs.Decimals.{signed-length}
 use Rattle.long_writing.specs.Decimals.{longDecimal, longSigned}
 use Rattle.long_writing.proofs.Growing.{short-signed, decimals-length}
-use Rattle.long_fields.specs.Fields.{longBy, Magnitudes}
+use Rattle.long_fields.specs.Fields.{longBy, widestEdge, Magnitudes}
 
 -- ---- a number by its sign and its magnitude
 pub by-sign : (z : ℤ) (b : Bool) (n : ℕ) → b ≡ ltZ z (pos 0) → n ≡ natAbs z → longBy b n ≡ longSigned z
@@ -77,11 +78,11 @@ unfolding value natural
 value-neg zero g = refl
 value-neg (suc L) g = ap (λ z. pos base *ℤ z +ℤ negℤ (pos (g L))) (value-neg L g) ∙ turned (pos (natural L g)) (pos (g L))
 
-pub magnitude-of : {L K : ℕ} {ns : List ℤ} {v : ℕ} {r : List ℕ} → Magnitudes L K ns v r → OneSign L K ns v → natural L (λ k. getD r k 0) ≡ natAbs (longNumerator L K ns v)
-magnitude-of {L} {K} {ns} {v} {r} w (inl up) =
-    sym (ap natAbs (value-cong L (λ k l. up-is (digitOf K ns k v) (up k l) ∙ ap pos (sym (w .each k l))) ∙ value-pos L (λ k. getD r k 0)))
-magnitude-of {L} {K} {ns} {v} {r} w (inr down) =
-    sym (ap natAbs (value-cong L (λ k l. down-is (digitOf K ns k v) (down k l) ∙ ap (λ n. negℤ (pos n)) (sym (w .each k l))) ∙ value-neg L (λ k. getD r k 0)) ∙ natAbs-neg (pos (natural L (λ k. getD r k 0))))
+pub magnitude-of : (L K : ℕ) (ns : List ℤ) (v : ℕ) (g : ℕ → ℕ) → ((k : ℕ) → k < L → g k ≡ natAbs (digitOf K ns k v)) → OneSign L K ns v → natural L g ≡ natAbs (longNumerator L K ns v)
+magnitude-of L K ns v g each (inl up) =
+    sym (ap natAbs (value-cong L (λ k l. up-is (digitOf K ns k v) (up k l) ∙ ap pos (sym (each k l))) ∙ value-pos L g))
+magnitude-of L K ns v g each (inr down) =
+    sym (ap natAbs (value-cong L (λ k l. down-is (digitOf K ns k v) (down k l) ∙ ap (λ n. negℤ (pos n)) (sym (each k l))) ∙ value-neg L g) ∙ natAbs-neg (pos (natural L g)))
 
 -- ---- how many bytes
 pub by-length : (b : Bool) (L : ℕ) (f : ℕ → ℕ) → ((k : ℕ) → f k < base) → L ≤ 55 → length (longBy b (natural L f)) ≤ 331
@@ -97,6 +98,33 @@ short-is z h = short-signed z (abs-low z h)
 
 pub short-length : (z : ℤ) → SFits w64 z → length (longSigned z) ≤ 21
 short-length z h = omega (arith, ap length (short-is z h), signed-length z)
+
+pub pos-length : (n : ℕ) → n < 2 ^ 63 → length (longSigned (toZ w64 n)) ≤ 21
+pos-length n h = omega (arith, ap (λ (z : ℤ). length (longSigned z)) (back-pos n h), short-length (pos n) (fits-abs (pos n) h))
+
+-- ---- the numerator of an edge
+module _ {K : ℕ} {Ds : List ℕ} {ns : List ℤ} (w : LongProper K Ds ns) (v : ℕ) (l : v < K) where
+  pub row-of : LongRow K (length Ds) ns v
+  row-of = record { table = omega (arith, w .whole); edge = l }
+
+  pub edge-of : LongEdge K (length Ds) Ds ns v
+  edge-of = record { row = row-of; levels = omega arith; digits = w .digits; tops = λ k _. w .tops (k * K + v) }
+
+  pub numerator-wrote : {b c r : List ℕ} {at k : ℕ} {y : ℤ} → Magnitudes (length Ds) K ns v r → y ≡ clamp most (measure (pos 0) (pos (longDenominator (length Ds) Ds)) (longNumerator (length Ds) K ns v))
+      → Wrote b c at (32 ∷ longBy (ltZ y (pos 0)) (natural (length Ds) (λ i. getD r i 0))) k → Wrote b c at (32 ∷ longSigned (longNumerator (length Ds) K ns v)) k
+  numerator-wrote {b} {c} {r} {at} {k} {y} m e p = subst (λ (t : List ℕ). Wrote b c at (32 ∷ t) k)
+      (by-sign (longNumerator (length Ds) K ns v) (ltZ y (pos 0)) (natural (length Ds) (λ i. getD r i 0)) (sign-of (pos (longDenominator (length Ds) Ds)) (longNumerator (length Ds) K ns v) y e) (magnitude-of (length Ds) K ns v (λ i. getD r i 0) (m .each) (w .signs v l))) p
+
+  pub numerator-length : length (longSigned (longNumerator (length Ds) K ns v)) ≤ 331
+  numerator-length =
+      let n = longNumerator (length Ds) K ns v in
+      let g : ℕ → ℕ = λ k. natAbs (digitOf K ns k v) in
+      omega (
+        arith,
+        w .most,
+        ap length (by-sign n (ltZ n (pos 0)) (natural (length Ds) g) refl (magnitude-of (length Ds) K ns v g (λ k _. refl) (w .signs v l))),
+        by-length (ltZ n (pos 0)) (length Ds) g (λ k. w .tops (k * K + v)) (omega (arith, w .most)),
+      )
 
 -- ---- a line, field by field
 pub fields-first : (show : ℤ → List ℕ) (z : ℤ) (zs : List ℤ) (t : List ℕ) → fieldsBy show (z ∷ zs) ++ t ≡ (32 ∷ show z) ++ (fieldsBy show zs ++ t)
@@ -158,3 +186,47 @@ module _ (L K : ℕ) (ns : List ℤ) (v : ℕ) where
 
     pub digit-back : toZ w64 (ofZ w64 (digitOf K ns k v)) ≡ digitOf K ns k v
     digit-back = back (digitOf K ns k v) (omega (arith, tops (k * K + v)))
+
+-- ---- a line that was written piece by piece
+abbrev one-part : List ℕ → ℤ → List ℕ
+one-part word a = word ++ ((32 ∷ longSigned a) ++ end)
+
+abbrev two-parts : List ℕ → ℤ → ℤ → List ℕ
+two-parts word a b = word ++ ((32 ∷ longSigned a) ++ ((32 ∷ longSigned b) ++ end))
+
+abbrev three-parts : List ℕ → ℤ → ℤ → ℤ → List ℕ
+three-parts word a b c = word ++ ((32 ∷ longSigned a) ++ ((32 ∷ longSigned b) ++ ((32 ∷ longSigned c) ++ end)))
+
+pub one-length : (word : List ℕ) (a : ℤ) → length (lineBy longSigned word (a ∷ [])) ≡ length word + length (longSigned a) + 2
+one-length word a = ap (λ (l : List ℕ). length (word ++ l)) (one-field longSigned a) ∙ simp length-append (omega arith)
+
+pub two-length : (word : List ℕ) (a b : ℤ) → length (lineBy longSigned word (a ∷ b ∷ [])) ≡ length word + length (longSigned a) + length (longSigned b) + 3
+two-length word a b = ap (λ (l : List ℕ). length (word ++ l)) (two-fields longSigned a b) ∙ simp length-append (omega arith)
+
+pub three-length : (word : List ℕ) (a b c : ℤ) → length (lineBy longSigned word (a ∷ b ∷ c ∷ [])) ≡ length word + length (longSigned a) + length (longSigned b) + length (longSigned c) + 4
+three-length word a b c = ap (λ (l : List ℕ). length (word ++ l)) (three-fields longSigned a b c) ∙ simp length-append (omega arith)
+
+module _ {b c d e : List ℕ} {at i j k : ℕ} (word : List ℕ) (x : ℤ) (room : at + (length word + length (longSigned x) + 2) ≤ length b) where
+  pub one-wrote : Wrote b c at word i → Wrote c d i (32 ∷ longSigned x) j → Wrote d e j end k → Wrote b e at (lineBy longSigned word (x ∷ [])) k
+  one-wrote w1 w2 w3 =
+      let same = ap (λ (l : List ℕ). word ++ l) (one-field longSigned x) in
+      let size : at + length (one-part word x) ≤ length b = omega (arith, one-length word x, ap length same) in
+      subst (λ (t : List ℕ). Wrote b e at t k) (sym same) (and-then size w1 (λ r. and-then r w2 (λ _. w3)))
+
+module _ {b c d e f : List ℕ} {at i j k l : ℕ} (word : List ℕ) (x y : ℤ) (room : at + (length word + length (longSigned x) + length (longSigned y) + 3) ≤ length b) where
+  pub two-wrote : Wrote b c at word i → Wrote c d i (32 ∷ longSigned x) j → Wrote d e j (32 ∷ longSigned y) k → Wrote e f k end l → Wrote b f at (lineBy longSigned word (x ∷ y ∷ [])) l
+  two-wrote w1 w2 w3 w4 =
+      let same = ap (λ (l : List ℕ). word ++ l) (two-fields longSigned x y) in
+      let size : at + length (two-parts word x y) ≤ length b = omega (arith, two-length word x y, ap length same) in
+      subst (λ (t : List ℕ). Wrote b f at t l) (sym same) (and-then size w1 (λ r. and-then r w2 (λ r. and-then r w3 (λ _. w4))))
+
+module _ {b c d e f g : List ℕ} {at i j k l o : ℕ} (word : List ℕ) (x y z : ℤ) (room : at + (length word + length (longSigned x) + length (longSigned y) + length (longSigned z) + 4) ≤ length b) where
+  pub three-wrote : Wrote b c at word i → Wrote c d i (32 ∷ longSigned x) j → Wrote d e j (32 ∷ longSigned y) k → Wrote e f k (32 ∷ longSigned z) l → Wrote f g l end o → Wrote b g at (lineBy longSigned word (x ∷ y ∷ z ∷ [])) o
+  three-wrote w1 w2 w3 w4 w5 =
+      let same = ap (λ (l : List ℕ). word ++ l) (three-fields longSigned x y z) in
+      let size : at + length (three-parts word x y z) ≤ length b = omega (arith, three-length word x y z, ap length same) in
+      subst (λ (t : List ℕ). Wrote b g at t o) (sym same) (and-then size w1 (λ r. and-then r w2 (λ r. and-then r w3 (λ r. and-then r w4 (λ _. w5)))))
+
+-- ---- the line of an edge
+pub edge-length : (v : ℕ) (n m : ℤ) → v < 2 ^ 63 → length (longSigned n) ≤ 331 → SFits w64 m → length (lineBy longSigned edgeWord (pos v ∷ n ∷ m ∷ [])) ≤ widestEdge
+edge-length v n m h k f = omega (arith, three-length edgeWord (pos v) n m, short-length (pos v) (fits-abs (pos v) h), short-length m f)

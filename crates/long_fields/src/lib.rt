@@ -53,7 +53,14 @@ fn magnitudes(edges: usize, levels: usize, digits: &[i64], v: usize) -> [u32; WI
 }
 
 // A space, and the numerator of an edge.
-fn numerator_field(text: &mut [u8], at: usize, edges: usize, d: &[u32], digits: &[i64], v: usize) -> usize
+fn numerator_field(
+    text: &mut [u8],
+    at: usize,
+    edges: usize,
+    d: &[u32],
+    digits: &[i64],
+    v: usize,
+) -> usize
     requires { ⌜ (v < edges) × (at + widestField ≤ length (now text)) ⌝ }
     requires { ⌜ LongProper edges (now d) (now digits) ⌝ }
     ensures { λ r. ⌜ Wrote (now (text .entry)) (now (text .exit)) at (32 ∷ longSigned (longNumerator (length (now (d .entry))) edges (now (digits .entry)) v)) r ⌝ }
@@ -65,7 +72,15 @@ fn numerator_field(text: &mut [u8], at: usize, edges: usize, d: &[u32], digits: 
 }
 
 // The line of an edge: the edge, n, m.
-pub fn edge_line(text: &mut [u8], at: usize, edges: usize, d: &[u32], digits: &[i64], v: usize, m: i64) -> usize
+pub fn edge_line(
+    text: &mut [u8],
+    at: usize,
+    edges: usize,
+    d: &[u32],
+    digits: &[i64],
+    v: usize,
+    m: i64,
+) -> usize
     requires { ⌜ (v < edges) × (at + widestEdge ≤ length (now text)) ⌝ }
     requires { ⌜ LongProper edges (now d) (now digits) ⌝ }
     ensures { λ r. ⌜ Wrote (now (text .entry)) (now (text .exit)) at (lineBy longSigned edgeWord (pos v ∷ longNumerator (length (now (d .entry))) edges (now (digits .entry)) v ∷ m ∷ [])) r ⌝ }

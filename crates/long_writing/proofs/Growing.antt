@@ -101,9 +101,11 @@ longer k zero f small few one = (omega (arith, ap (λ (i : ℕ). natural i f) (k
     k-none k = omega arith
 longer k (suc j) f small few one =
     let (high, e) = longer k j f small (omega arith) one in
-    let s : natural (k + suc j) f ≡ base * natural (k + j) f + f (k + j) = ap (λ (i : ℕ). natural i f) (k-more k j) ∙ natural-suc (k + j) f in
-    (omega (arith, s, high), ap longDecimal s ∙ grown (natural (k + j) f) (f (k + j)) (omega (arith, high, one)) (small (k + j)) (few-decimals (k + j) f small (omega arith))
-    ∙ ap (λ (l : List ℕ). l ++ six (f (k + j))) e ∙ append-assoc (longDecimal (natural k f)) (sixes k j f) (six (f (k + j))))
+    let s : natural (k + suc j) f ≡ base * natural (k + j) f + f (k + j) = ap (λ (i : ℕ). natural i f) (k-more k j) ∙ natural-suc (k + j) f in (
+      omega (arith, s, high),
+      ap longDecimal s ∙ grown (natural (k + j) f) (f (k + j)) (omega (arith, high, one)) (small (k + j)) (few-decimals (k + j) f small (omega arith))
+          ∙ ap (λ (l : List ℕ). l ++ six (f (k + j))) e ∙ append-assoc (longDecimal (natural k f)) (sixes k j f) (six (f (k + j))),
+    )
   where
     k-more : (k j : ℕ) → k + suc j ≡ suc (k + j)
     k-more k j = omega arith

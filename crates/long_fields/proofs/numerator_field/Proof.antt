@@ -1,3 +1,7 @@
+-- The sign by a comparison with 0, then the digits without it.
+use native.Mathlib.Omega.{arith}
+use Rattle.long_sums.proofs.Filling.{stored}
+use Rattle.long_fields.proofs.Numbers.{row-of, edge-of, numerator-wrote}
 use borrow.Author.Needs.{needs}
 use Rattle.long_fields.proofs.numerator_field.Statement.{statement}
 use Rattle.long_fields.proofs.numerator_field.Tie as tie
@@ -7,29 +11,23 @@ use Rattle.long_fields.proofs.field.Reads as field-reads
 use Rattle.long_fields.proofs.magnitudes.Reads as magnitudes-reads
 use Rattle.long_lengths.proofs.compare.Reads as compare-reads
 
--- src/lib.rt:62:9
 compare-requires : tie.Need-compare-requires
-compare-requires c κs = ?
+compare-requires c κs = let s = c .before .before in (edge-of (s .pre .1) _ (s .pre .0 .0), search needs)
 
--- src/lib.rt:63:16
 magnitudes-requires : tie.Need-magnitudes-requires
-magnitudes-requires c κs = search needs
+magnitudes-requires c κs = let s = c .before .before .before in (row-of (s .pre .1) _ (s .pre .0 .0), (s .pre .1 .most, s .pre .1 .tops))
 
--- src/lib.rt:64:39
 slice-aggregate-field : tie.Need-slice-aggregate-field
 slice-aggregate-field c = search needs
 
--- src/lib.rt:64:5
 field-requires : tie.Need-field-requires
-field-requires c κs = search needs
+field-requires c κs = let s = c .before .before .before .before .before .before in ((omega (arith, s .pre .1 .most), omega (arith, c .before .before .magnitudes .ensures .size, s .pre .1 .most), s .pre .0 .1), c .before .before .magnitudes .ensures .small)
 
--- src/lib.rt:56:1
 same-length : tie.Need-same-length
 same-length c = search needs
 
--- src/lib.rt:56:1
 returns : tie.Need-returns
-returns c = ?
+returns c = let s = c .before .before .before .before .before .before .before .before .before in numerator-wrote (s .pre .1) _ (s .pre .0 .0) (c .before .before .before .before .before .magnitudes .ensures) (stored _ _ (c .before .before .before .before .before .before .compare .ensures)) (c .before .before .field .ensures)
 
 pub numerator-field-spec : {M : Type 1} → statement M
 numerator-field-spec =
