@@ -1,6 +1,6 @@
 -- The print of a fit in digits: of what a matrix, a tree and long lengths are, and of a report.
 use mathlib.Core.Path.{_≡_}
-use mathlib.Core.Bool.{true}
+use mathlib.Core.Bool.{Bool, true}
 use mathlib.Core.List.{List}
 use Prim.Native.Nat.{ℕ, _+_}
 use lib.IntN.{ℤ, pos}
@@ -30,15 +30,23 @@ longFitOf rule N ds ps Ds ns = wideFitOf rule N ds ps (longDenominator (length D
 abbrev pub numberOf : ℕ → List ℕ → ℕ
 numberOf L digits = natural (L + 3) (λ k. getD digits k 0)
 
--- of a report, beside the digits that it is of
-abbrev pub longReportText : Rule → List ℕ → List ℤ → LongReport → List ℕ
-longReportText rule Ds ns x =
-    fitTextBy longSigned rule (x .strains) (x .edges) (longDenominator (length Ds) Ds) (longNumerator (length Ds) (x .edges) ns) (entryOf (x .rounded))
-    (wideOf (x .length .negative) (numberOf (length Ds) (x .length .digits))) (pos (numberOf (length Ds) (x .f))) (x .r) (x .h) (meanBy (x .mean .some) (numberOf (length Ds) (x .mean .digits)))
+-- by its numbers, beside the digits that they are of: the sign and the digits of the tree length, those of F, whether there is a mean square and the digits of what it is over
+abbrev pub numbersText : Rule → ℕ → ℕ → List ℕ → List ℤ → List ℤ → Bool → List ℕ → List ℕ → ℤ → ℤ → Bool → List ℕ → List ℕ
+numbersText rule N K Ds ns ms negative total f R H some over =
+    fitTextBy longSigned rule N K (longDenominator (length Ds) Ds) (longNumerator (length Ds) K ns) (entryOf ms)
+    (wideOf negative (numberOf (length Ds) total)) (pos (numberOf (length Ds) f)) R H (meanBy some (numberOf (length Ds) over))
 
--- its numbers are in digits, and the sign is that of the number
-pub record Printable (L : ℕ) (x : LongReport) : Type 0 where
-  pub total : Digits (L + 3) (x .length .digits)
-  pub sign : x .length .negative ≡ ltZ (wideOf (x .length .negative) (numberOf L (x .length .digits))) (pos 0)
-  pub f : Digits (L + 3) (x .f)
-  pub mean : x .mean .some ≡ true → Digits (L + 3) (x .mean .digits)
+-- of a report
+abbrev pub longReportText : Rule → List ℕ → List ℤ → LongReport → List ℕ
+longReportText rule Ds ns x = numbersText rule (x .strains) (x .edges) Ds ns (x .rounded) (x .length .negative) (x .length .digits) (x .f) (x .r) (x .h) (x .mean .some) (x .mean .digits)
+
+-- numbers are in digits, and the sign is that of the number
+pub record Printed (L : ℕ) (negative : Bool) (total f : List ℕ) (some : Bool) (over : List ℕ) : Type 0 where
+  pub length-digits : Digits (L + 3) total
+  pub sign : negative ≡ ltZ (wideOf negative (numberOf L total)) (pos 0)
+  pub f-digits : Digits (L + 3) f
+  pub mean-digits : some ≡ true → Digits (L + 3) over
+
+-- those of a report
+abbrev pub Printable : ℕ → LongReport → Type 0
+Printable L x = Printed L (x .length .negative) (x .length .digits) (x .f) (x .mean .some) (x .mean .digits)
