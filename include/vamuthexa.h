@@ -96,6 +96,18 @@ size_t sheet_print0(const uint8_t *sheet, size_t length, uint8_t *text, size_t s
 /* The same for a sheet without lengths, as the program `resolved` prints it. */
 size_t unfitted_print(const uint8_t *sheet, size_t length, uint8_t *text, size_t size);
 
+/* The bytes of a page for the print of a long sheet. */
+enum { VAMUTHEXA_LONG_PAGE = 65536 };
+
+/* Writes to the front of `text` what `report --long` prints of a long sheet, whose lengths are over a denominator of any
+ * size. Returns how many bytes were written, at most VAMUTHEXA_LONG_PAGE, and leaves all behind them as it was. Where
+ * `size` is below VAMUTHEXA_LONG_PAGE, it writes nothing and returns 0. The two buffers may not overlap. Link with
+ * liblong_pages.a. */
+size_t long_print(const uint8_t *sheet, size_t length, uint8_t *text, size_t size);
+
+/* The same where no length may be negative, as `report0 --long` prints it. */
+size_t long_print0(const uint8_t *sheet, size_t length, uint8_t *text, size_t size);
+
 /* The lengths of a resolved tree of n strains that fit the distances best. Every table comes as a pointer and how many
  * entries it has: n(n-1)/2 distances, one parent for each of K edges, and three buffers of K entries for the
  * numerators and denominators in lowest terms and for the lengths in thousandths. The distance of strains i and j,

@@ -2,10 +2,10 @@
 use mathlib.Core.Path.{_≡_, refl, sym, _∙_, ap, ap₂, subst}
 use mathlib.Core.List.{List, [], _∷_, _++_, append-assoc}
 use Prim.Native.Nat.{ℕ, zero, suc, _+_, _*_, _-_, _/_, _%_, _^_, _≤_, _<_}
-use native.Mathlib.Nat.{lt-trans, lt-of-lt-of-le, pow-suc, pow-le-pow-right}
+use native.Mathlib.Nat.{lt-trans, le-trans, lt-of-lt-of-le, pow-suc, pow-le-pow-right}
 use native.Mathlib.Numerals.{add-one}
 use native.Mathlib.Omega.{arith}
-use lib.Dec.{ltb→lt}
+use lib.Dec.{ltb→lt, leb→le}
 use lib.IntN.{ℤ, pos, negsuc, natAbs}
 use lib.ListN.{length, length-append}
 use Rattle.long_digits.specs.Digits.{base, natural}
@@ -73,6 +73,10 @@ few-decimals L f h few = lt-trans (lt-of-lt-of-le (natural-low L f h) (pow-le-po
 
 pub six-long : (n : ℕ) → n < base → length (longDecimal n) ≤ 6
 six-long n h = rw (more 394 5 n (omega arith)) (digits-length 6 n)
+
+-- of 55 digits
+pub decimals-length : (L : ℕ) (f : ℕ → ℕ) → ((k : ℕ) → f k < base) → L ≤ 55 → length (longDecimal (natural L f)) ≤ 330
+decimals-length L f h few = rw (more 70 329 (natural L f) (lt-of-lt-of-le (natural-low L f h) (le-trans (pow-le-pow-right {n = base} (omega arith) {i = L} {j = 55} few) (leb→le (base ^ 55) (10 ^ 330) tt)))) (digits-length 330 (natural L f))
 
 -- ---- the digits behind the first
 pub sixes-length : (from j : ℕ) (f : ℕ → ℕ) → length (sixes from j f) ≡ 6 * j
