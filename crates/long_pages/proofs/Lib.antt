@@ -1,3 +1,2 @@
-pub mod Sheets
+pub mod Shown
 pub mod Settled
-pub mod Short

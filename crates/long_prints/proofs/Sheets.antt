@@ -1,10 +1,8 @@
 -- What is written is the print that the answer asks for.
 use mathlib.Core.Path.{_≡_, sym, _∙_, ap, subst}
 use mathlib.Core.List.{List}
-use Prim.Native.Nat.{ℕ, _≤_, _<_}
-use native.Mathlib.Omega.{arith}
+use Prim.Native.Nat.{ℕ}
 use lib.IntN.{ℤ}
-use lib.ListN.{length}
 use Rattle.verdict.specs.Answer.{Answer, pass, answerOf, reasonNumber}
 use Rattle.verdict.specs.declared.Refusal.{Refusal}
 use Rattle.verdict.specs.declared.Rule.{Rule}
@@ -12,11 +10,9 @@ use Rattle.verdict.specs.declared.Verdict.{Verdict}
 use Rattle.verdict.specs.declared.Verdict.the-variants.{Accepted, Refused}
 use Rattle.fit_theory.specs.Stands.{Posted}
 use Rattle.writing.specs.Text.{Wrote}
-use Rattle.writing.proofs.Writing.{wrote-within}
 use Rattle.lines.specs.Lines.{refusedLine}
 use Rattle.answer_lines.specs.Texts.{byAnswer}
 use Rattle.answer_lines.proofs.Texts.{shows-refusal, shows-accepted}
-use Rattle.pages.specs.Texts.{ShownOn}
 use Rattle.long_theory.specs.Long.{LongStands}
 use Rattle.long_theory.specs.Tests.{longProposalTests}
 use Rattle.long_theory.proofs.Exactly.{long-proposal-stands}
@@ -29,8 +25,7 @@ use Rattle.long_reporting.specs.declared.LongReport.{LongReport}
 use Rattle.long_reporting.specs.Reported.{LongReported}
 use Rattle.long_fit_lines.specs.LongTexts.{longFitOf, longReportText}
 use Rattle.long_fit_lines.proofs.Texts.{long-report-is}
-use Rattle.long_lines.specs.LongLines.{longPageSize}
-use Rattle.long_pages.specs.LongPages.{fitOfLong, longText}
+use Rattle.long_prints.specs.LongPrints.{fitOfLong, longText}
 
 module _ {before after : List ℕ} {next : ℕ} where
   -- a print by the answer that was given
@@ -59,7 +54,3 @@ module _ {before after : List ℕ} {next : ℕ} where
 -- lengths that are accepted stand
 pub lengths-stand : (rule : Rule) (N : ℕ) (ds ps Ds : List ℕ) (ns : List ℤ) (v : Verdict) → answerOf v ≡ longProposalTests rule N ds ps Ds ns → Posted N ds ps → v ≡ Accepted → LongStands rule N ds ps Ds ns
 lengths-stand rule N ds ps Ds ns v e p q = long-proposal-stands rule N ds ps Ds ns p (sym e ∙ ap answerOf q)
-
--- at the front of a long page or more
-pub long-page : {text before after : List ℕ} {next : ℕ} → longPageSize ≤ length before → Wrote before after 0 text next → ShownOn longPageSize text before after next
-long-page {text} {before} {after} {next} h w = record { written = λ _. w; short = λ l. absurd (omega arith); within = wrote-within w }

@@ -4,12 +4,12 @@ use Prim.Native.Nat.{ℕ}
 use native.Mathlib.Omega.{arith}
 use Rattle.long_theory.specs.Long.{LongProper}
 use Rattle.long_fit_lines.proofs.Texts.{printable}
-use Rattle.long_pages.proofs.Sheets.{lengths-refused, lengths-accepted, lengths-stand}
+use Rattle.long_prints.proofs.Sheets.{lengths-refused, lengths-accepted, lengths-stand}
 use borrow.Author.Needs.{needs}
-use Rattle.long_pages.proofs.print_lengths.Statement.{statement}
-use Rattle.long_pages.proofs.print_lengths.Tie as tie
-use Rattle.long_pages.proofs.print_lengths.Reads as reads
-use Rattle.long_pages.proofs.print_lengths.Lts as lts
+use Rattle.long_prints.proofs.print_lengths.Statement.{statement}
+use Rattle.long_prints.proofs.print_lengths.Tie as tie
+use Rattle.long_prints.proofs.print_lengths.Reads as reads
+use Rattle.long_prints.proofs.print_lengths.Lts as lts
 use Rattle.lines.proofs.refused_line.Reads as refused-line-reads
 use Rattle.long_fit_lines.proofs.long_fit_text.Reads as long-fit-text-reads
 use Rattle.long_judging.proofs.judge_long_proposal.Reads as judge-long-proposal-reads

@@ -7,17 +7,17 @@ use Rattle.long_theory.specs.Tests.{longProposalTests}
 use Rattle.long_reading.proofs.Parts.{Parts, accepted, read-parts}
 use Rattle.long_sheet.proofs.Lent.{levels-room, levels-size, levels-are, zeros-room, zeros-size, digits-room, digits-size, digits-are, of-lent, to-lent}
 use Rattle.long_fit_lines.specs.LongTexts.{longFitOf}
-use Rattle.long_pages.proofs.Sheets.{sheet-refused, sheet-read}
+use Rattle.long_prints.proofs.Sheets.{sheet-refused, sheet-read}
 use borrow.Author.Needs.{needs}
-use Rattle.long_pages.proofs.print_sheet.Statement.{statement}
-use Rattle.long_pages.proofs.print_sheet.Tie as tie
-use Rattle.long_pages.proofs.print_sheet.Reads as reads
-use Rattle.long_pages.proofs.print_sheet.Lts as lts
+use Rattle.long_prints.proofs.print_long.Statement.{statement}
+use Rattle.long_prints.proofs.print_long.Tie as tie
+use Rattle.long_prints.proofs.print_long.Reads as reads
+use Rattle.long_prints.proofs.print_long.Lts as lts
 use Rattle.lines.proofs.refused_line.Reads as refused-line-reads
 use Rattle.long_decoding.proofs.denominator_digits.Reads as denominator-digits-reads
 use Rattle.long_decoding.proofs.digits_into.Reads as digits-into-reads
 use Rattle.long_decoding.proofs.no_digits.Reads as no-digits-reads
-use Rattle.long_pages.proofs.print_lengths.Reads as print-lengths-reads
+use Rattle.long_prints.proofs.print_lengths.Reads as print-lengths-reads
 use Rattle.long_reading.proofs.read_long.Reads as read-long-reads
 use Rattle.verdict.proofs.number.Reads as number-reads
 
@@ -103,8 +103,8 @@ returns-2 c = let s = c .before .before .before .before .before .before .before 
     (of-lent (held (c .before .before .before .before .before .before .before .before .before .before .before .before .before .before .before)) _ _ (levels-are (held (c .before .before .before .before .before .before .before .before .before .before .before .before .before .before .before)) _ (c .before .before .before .before .before .before .before .before .before .before .before .before .denominator-digits .ensures)) (digits-are (held (c .before .before .before .before .before .before .before .before .before .before .before .before .before .before .before)) _ (c .before .before .before .before .before .before .before .before .before .before .before .no-digits .ensures) _ (c .before .before .before .before .before .before .before .before .before .digits-into .ensures))
     (λ n ds ps d ns. Wrote (s .args .text .now) (c .before .before .print-lengths .last .1 .1 .1 .1 .1 .1 .0) 0 (byAnswer (longProposalTests rule n ds ps d ns) (longFitOf rule n ds ps d ns)) (c .before .before .print-lengths .result)) (c .before .before .print-lengths .ensures))
 
-pub print-sheet-spec : {M : Type 1} → statement M
-print-sheet-spec =
+pub print-long-spec : {M : Type 1} → statement M
+print-long-spec =
     tie.close
     (tie.spec
     read-long-requires
