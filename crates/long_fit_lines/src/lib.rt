@@ -68,7 +68,13 @@ fn print_numbers(
 }
 
 // The whole print of a fit in digits, at the front of the buffer: `d` has the digits of D, `digits` those of the numerators.
-pub fn long_fit_text(text: &mut [u8], rule: Rule, d: &[u32], digits: &[i64], report: LongReport) -> usize
+pub fn long_fit_text(
+    text: &mut [u8],
+    rule: Rule,
+    d: &[u32],
+    digits: &[i64],
+    report: LongReport,
+) -> usize
     requires { ⌜ LongProper (report .edges) (now d) (now digits) ⌝ }
     requires { ⌜ Printable (length (now d)) report ⌝ }
     requires room { ⌜ longPageSize ≤ length (now text) ⌝ }
