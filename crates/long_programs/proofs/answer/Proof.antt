@@ -1,3 +1,9 @@
+-- Nothing where a read failed; else the bytes that came are the sheet, and each arm is its own print.
+use native.Mathlib.Omega.{arith}
+use lib.ListN.{length-take}
+use Rattle.verdict.specs.declared.Rule.the-variants.{Plain, Drawable}
+use Rattle.long_programs.proofs.Answering.{nothing, printed}
+use borrow.Author.Tests.{not-true, not-false}
 use borrow.Author.Needs.{needs}
 use Rattle.long_programs.proofs.answer.Statement.{statement}
 use Rattle.long_programs.proofs.answer.Tie as tie
@@ -6,45 +12,35 @@ use Rattle.long_programs.proofs.answer.Lts as lts
 use Rattle.long_pages.proofs.long_print.Reads as long-print-reads
 use Rattle.long_pages.proofs.long_print0.Reads as long-print0-reads
 
--- src/lib.rt:34:9
 returns : tie.Need-returns
-returns c = ?
+returns c = nothing _ _ _ _ (not-true _ (c .if1 .taken))
 
--- src/lib.rt:37:9
 slice-aggregate-sheet : tie.Need-slice-aggregate-sheet
-slice-aggregate-sheet c = ?
+slice-aggregate-sheet c = simp length-take (omega arith)
 
--- src/lib.rt:39:54
 enum-told : tie.Need-enum-told
 enum-told c = search needs
 
--- src/lib.rt:39:24
 long-print-requires : tie.Need-long-print-requires
 long-print-requires c κs = search needs
 
--- src/lib.rt:40:58
 enum-told-2 : tie.Need-enum-told-2
 enum-told-2 c = search needs
 
--- src/lib.rt:40:27
 long-print0-requires : tie.Need-long-print0-requires
 long-print0-requires c κs = search needs
 
--- src/lib.rt:29:1
 same-length : tie.Need-same-length
 same-length c = search needs
 
--- src/lib.rt:29:1
 returns-2 : tie.Need-returns-2
-returns-2 c = ?
+returns-2 c = printed _ Plain _ _ _ _ _ (not-false _ (c .before .before .before .before .before .before .before .if1 .left)) (c .before .before .before .before .enum-told .given .1) (c .before .before .long-print .ensures)
 
--- src/lib.rt:29:1
 same-length-2 : tie.Need-same-length-2
 same-length-2 c = search needs
 
--- src/lib.rt:29:1
 returns-3 : tie.Need-returns-3
-returns-3 c = ?
+returns-3 c = printed _ Drawable _ _ _ _ _ (not-false _ (c .before .before .before .before .before .before .before .if1 .left)) (c .before .before .before .before .enum-told2 .given .1) (c .before .before .long-print0 .ensures)
 
 pub answer-spec : {M : Type 1} → statement M
 answer-spec =
