@@ -15,12 +15,16 @@ complement. The highest digit and the highest level come first.
     22, 14, 23       as of a sheet; the sum is cut off at 1,000,000,000,000 on either side
 
     tests/long.py --self         holds this reading to cases worked by hand, and its sums to those of reading.py
+    tests/long.py --drive WORDS WORDS0
+                                 starts the programs of bin/report --long and bin/report0 --long, each given by its words, on some of these sheets, and
+                                 holds what they print to this reading
     tests/long.py --calls WORDS  makes long sheets, most of them damaged, and has both verdicts judge them by the program of tests/compare_long.c, given by
                                  its words; and pairs of a sheet and a long sheet with the same lengths, which must get the same numbers"""
 import copy
 import functools
 import os
 import random
+import shlex
 import struct
 import subprocess
 import sys
@@ -158,6 +162,17 @@ def by_rule(rule, numerators, sums):
             if at_fault(x, found):
                 return (number, "edge", v) + ((max(-CUT, min(CUT, found)),) if with_sum else ())
     return reading.PASS
+
+
+def prints(data):
+    """What the two programs print."""
+    _, bodies = records_of(data)
+    due = answers(data)
+    if reading.PASS in due:
+        n, distances, _, parents = reading.read_front(*bodies[:2])
+        report = reading.Report(n, distances, parents, *lengths_of(bodies[2], len(parents))[1])
+    rules = (reading.PLAIN, reading.DRAWABLE)
+    return tuple([reading.refused_line(answer)] if answer else report.lines(rule) for answer, rule in zip(due, rules))
 
 
 def numbers_of(data):
@@ -989,7 +1004,31 @@ def check_sums():
     assert fits["only one"] > 20, fits
 
 
+PRINTED = 400
+
+
+def drive_programs(programs):
+    """Both programs, started once for each sheet: as many accepted ones as others, and each number of refusal among these."""
+    rng, tally = random.Random(65_536), Tally()
+    made = sorted(set(sheets(rng, Tally())), key=lambda data: (numbers_of(data), data))
+    taken = [data for data in made if 0 in numbers_of(data)]
+    other = [data for data in made if 0 not in numbers_of(data)]
+    for data in rng.sample(taken, PRINTED) + rng.sample(other, PRINTED) + examples():
+        tally.sheet(data, numbers_of(data))
+        for words, lines in zip(programs, prints(data)):
+            done = subprocess.run(words, input=data, stdout=subprocess.PIPE, stderr=subprocess.PIPE)
+            tally.see("print", data, (done.stdout, done.stderr), ("".join(line + "\n" for line in lines).encode(), b""))
+    for rule, counted, numbers in zip(("the plain rule", "the other rule"), tally.due, DUE):
+        missing = [number for number in numbers if not counted[number]]
+        if missing:
+            tally.say("%s: no sheet with %s" % (rule, missing))
+    print("%d passed, %d failed" % (tally.passed, tally.failed))
+    return 1 if tally.failed else 0
+
+
 def main():
+    if sys.argv[1:2] == ["--drive"] and len(sys.argv) == 4:
+        return drive_programs([shlex.split(words) for words in sys.argv[2:]])
     if sys.argv[1:2] == ["--calls"] and len(sys.argv) > 2:
         return drive(sys.argv[2:])
     if sys.argv[1:] != ["--self"]:
