@@ -38,6 +38,8 @@ static void verdict(void) { number = sheet_verdict(sheet, VAMUTHEXA_MAX_SHEET); 
 static void verdict0(void) { number = sheet_verdict0(sheet, VAMUTHEXA_MAX_SHEET); }
 static void long_one(void) { number = long_verdict(long_sheet, VAMUTHEXA_MAX_LONG_SHEET); }
 static void long_one0(void) { number = long_verdict0(long_sheet, VAMUTHEXA_MAX_LONG_SHEET); }
+static void print_long(void) { printed = long_print(long_sheet, VAMUTHEXA_MAX_LONG_SHEET, page, VAMUTHEXA_LONG_PAGE); }
+static void print_long0(void) { printed = long_print0(long_sheet, VAMUTHEXA_MAX_LONG_SHEET, page, VAMUTHEXA_LONG_PAGE); }
 static void print(void) { printed = sheet_print(sheet, VAMUTHEXA_MAX_SHEET, page, VAMUTHEXA_PAGE); }
 static void print0(void) { printed = sheet_print0(sheet, VAMUTHEXA_MAX_SHEET, page, VAMUTHEXA_PAGE); }
 static void unfitted(void) { printed = unfitted_print(sheet, VAMUTHEXA_MAX_SHEET - LENGTHS, page, VAMUTHEXA_PAGE); }
@@ -64,6 +66,7 @@ static const struct {
     int prints; /* whether it gives a length, not a number */
 } entries[] = {
     {"long_verdict", long_one, 0},     {"long_verdict0", long_one0, 0},
+    {"long_print", print_long, 1},     {"long_print0", print_long0, 1},
     {"sheet_verdict", verdict, 0},     {"sheet_verdict0", verdict0, 0},  {"sheet_print", print, 1},
     {"sheet_print0", print0, 1},       {"unfitted_print", unfitted, 1},  {"resolved_lengths", resolved, 0},
     {"phylip_write", write_matrix, 0}, {"phylip_read", read_matrix, 0},  {"newick_print", print_tree, 1},
@@ -158,9 +161,11 @@ int main(void) {
     fine &= long_verdict(NULL, 0) == VAMUTHEXA_RECORD_CUT && long_verdict0(NULL, 0) == VAMUTHEXA_RECORD_CUT;
     fine &= sheet_print(NULL, 0, page, VAMUTHEXA_PAGE) == 17 && memcmp(page, "refused 2 byte 0\n", 17) == 0;
     fine &= sheet_print0(NULL, 0, page, VAMUTHEXA_PAGE) == 17 && unfitted_print(NULL, 0, page, VAMUTHEXA_PAGE) == 17;
+    fine &= long_print(NULL, 0, page, VAMUTHEXA_LONG_PAGE) == 17 && long_print0(NULL, 0, page, VAMUTHEXA_LONG_PAGE) == 17;
     fine &= newick_print(NULL, 0, page, VAMUTHEXA_TREE_PAGE) == 17;
     fine &= sheet_print(NULL, 0, NULL, 0) == 0 && sheet_print0(NULL, 0, NULL, 0) == 0;
     fine &= unfitted_print(NULL, 0, NULL, 0) == 0 && newick_print(NULL, 0, NULL, 0) == 0;
+    fine &= long_print(NULL, 0, NULL, 0) == 0 && long_print0(NULL, 0, NULL, 0) == 0;
     fine &= resolved_lengths(0, NULL, 0, NULL, 0, NULL, 0, NULL, 0, NULL, 0) == VAMUTHEXA_STRAINS;
     fine &= resolved_lengths(N, distances, PAIRS, parents, K, NULL, 0, NULL, 0, NULL, 0) == VAMUTHEXA_BUFFER;
     fine &= phylip_read(NULL, 0, NULL, 0, NULL, 0) == VAMUTHEXA_TEXT;
