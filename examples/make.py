@@ -3,6 +3,7 @@
 import json
 import os
 import re
+import struct
 import sys
 
 HERE = os.path.dirname(os.path.abspath(__file__))
@@ -47,6 +48,8 @@ SHEETS = {
     "a-02.sheet": shortest.WITH_02,
     "a-03.sheet": shortest.WITH_03,
     "a.unfitted": reading.bare_sheet(n, distances, parents),
+    "a.long": reading.bare_sheet(n, distances, parents)
+    + reading.record(4, struct.pack("<HHI", 1, len(numerators), denominator) + b"".join(struct.pack("<i", x) for x in numerators)),
     "cut.sheet": reading.sheet(*make_figures.A)[:-1],
     "a.named": newick.named(reading.sheet(*make_figures.A), names),
     "carnivores.named": newick.named(reading.sheet(*make_figures.table_one()), animals),

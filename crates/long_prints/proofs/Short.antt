@@ -13,7 +13,7 @@ use Rattle.lines.specs.Lines.{end, fieldsBy, lineBy, edgeWord, fitWord, lengthW
 use Rattle.long_writing.specs.Decimals.{longSigned}
 use Rattle.long_writing.proofs.Growing.{short-signed}
 
-abbrev Low : ℤ → Type 0
+abbrev pub Low : ℤ → Type 0
 Low z = natAbs z < 2 ^ 64
 
 none : fieldsBy longSigned [] ≡ fieldsBy signed []
@@ -34,7 +34,7 @@ edges (suc K) n m few f g = ap₂ _++_ (edges K n m (omega arith) (λ v l. f v (
     (as-line edgeWord (pos K ∷ n K ∷ m K ∷ []) (and (pos K) (n K ∷ m K ∷ []) (omega arith) (and (n K) (m K ∷ []) (f K (omega arith)) (and (m K) [] (g K (omega arith)) none))))
 
 -- what the mean square is over is low
-abbrev LowMean : Mean → Type 0
+abbrev pub LowMean : Mean → Type 0
 LowMean None = Unit
 LowMean (Over z) = natAbs z < 2 ^ 64
 
