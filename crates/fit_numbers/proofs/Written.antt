@@ -13,7 +13,7 @@ use mir.Syntax.{w64}
 use mir.Val.{toZ, ofZ}
 use Rattle.exact.specs.Table.{table, entryOf}
 use Rattle.exact.specs.Nearest.{nearest}
-use Rattle.exact.proofs.Fill.{Filled, fill-none, fill-more, filled-whole, length-table, getD-table-const, table-is}
+use Rattle.exact.proofs.Fill.{Filled, fill-none, fill-more, filled-whole, length-table, getD-table, getD-table-const, table-is}
 use Rattle.exact.proofs.Rounding.{nearest-bound}
 use Rattle.exact.proofs.Sign.{back}
 use Rattle.tree_theory.specs.Limits.{maxEdges}
@@ -46,6 +46,13 @@ module _ (K D : ℕ) (ns : List ℤ) where
   pub written-end : (v : ℕ) (ms : List ℤ) → K ≤ v → Written K D ns v ms → ms ≡ table maxEdges (length-of K D ns)
   written-end v ms l w = table-is (pos 0) (length-of K D ns) maxEdges ms (w .size)
       (λ i _. filled-whole (pos 0) _ _ v ms (w .filled) (λ k h. simp (le-ltb k K (omega arith))) i)
+
+  -- what stands in it
+  pub rounded-entry : (ms : List ℤ) → ms ≡ table maxEdges (length-of K D ns) → K ≤ maxEdges → (v : ℕ) → v < K → entryOf ms v ≡ nearest D (entryOf ns v)
+  rounded-entry ms e k v h =
+      ap (λ (x : List ℤ). entryOf x v) e
+      ∙ getD-table maxEdges (length-of K D ns) (pos 0) v (omega arith)
+      ∙ ap (λ c. cond c (nearest D (entryOf ns v)) (pos 0)) (lt-ltb v K h)
 
 -- the same of the machine's numbers: a numerator and its rounded length come back from their bits
 module _ {K : ℕ} {ns : List ℤ} (w : InRange K ns) (v : ℕ) (l : v < K) where

@@ -47,7 +47,7 @@ fn put_edge(text: &mut [u8], at: usize, m: i64) -> usize
 }
 
 // The name that starts with its length byte at a place of the names.
-fn put_name(names: &[u8], start: usize, text: &mut [u8], at: usize) -> usize
+pub fn put_name(names: &[u8], start: usize, text: &mut [u8], at: usize) -> usize
     requires { ⌜ start + 1 + getD (now names) start 0 ≤ length (now names) ⌝ }
     requires { ⌜ at + getD (now names) start 0 ≤ length (now text) ⌝ }
     ensures { λ r. ⌜ Wrote (now (text .entry)) (now (text .exit)) at (take (getD (now (names .entry)) start 0) (drop (start + 1) (now (names .entry)))) r ⌝ }

@@ -18,9 +18,9 @@ use Rattle.matrix.proofs.Places.{place-bound, pair-place-up, pair-place-down}
 use Rattle.writing.specs.Text.{decimal, Wrote}
 use Rattle.writing.proofs.Writing.{wrote-none, wrote-then, wrote-length}
 use Rattle.writing.proofs.Decimals.{decimal-length}
+use Rattle.pieces.specs.Pieces.{pieces}
 use Rattle.phylip_text.specs.Form.{nameSize}
-use Rattle.phylip_text.specs.Text.{piecesFrom, pieces, cellWritten, valueAt, nameWritten, rowWritten, textOf, widestRow, widestText}
-use Rattle.phylip_text.proofs.Pieces.{pieces-more}
+use Rattle.phylip_text.specs.Text.{cellWritten, valueAt, nameWritten, rowWritten, textOf, widestRow, widestText}
 use Rattle.phylip_text.proofs.Sizes.{name-long, cells-long}
 
 -- ---- a cell
@@ -52,39 +52,6 @@ name-is names n i h e = let q : nameSize * i + nameSize - nameSize * i ≡ nameS
     ∙ table-is 0 (λ k. getD names (nameSize * i + k) 0) nameSize (take nameSize (drop (nameSize * i) names))
     (length-take-le nameSize (drop (nameSize * i) names) (omega (arith, e, length-drop (nameSize * i) names)))
     (λ k l. getD-take nameSize (drop (nameSize * i) names) k 0 l ∙ getD-drop (nameSize * i) names k 0)
-
--- ---- pieces of at most w bytes: i of n are written
-pub record PiecesAt (b : List ℕ) (at n : ℕ) (p : ℕ → List ℕ) (c : List ℕ) (next i : ℕ) : Type 0 where
-  pub few : i ≤ n
-  pub wrote : Wrote b c at (pieces i p) next
-
-module _ (b : List ℕ) (at n : ℕ) (p : ℕ → List ℕ) where
-  pub pieces-start : PiecesAt b at n p b at 0
-  unfolding piecesFrom
-  pieces-start = record { few = omega arith; wrote = wrote-none b at }
-
-  module _ {c : List ℕ} {next i : ℕ} (t : PiecesAt b at n p c next i) where
-    pub pieces-end : n ≤ i → Wrote b c at (pieces n p) next
-    pieces-end h = let e : i ≡ n = omega (arith, t .few) in subst (λ (x : ℕ). Wrote b c at (pieces x p) next) e (t .wrote)
-
-    -- what they take, by what pieces of i take; there is room for one more
-    module _ (w : ℕ) (long : length (pieces i p) ≤ w) where
-      pub pieces-size : at + w ≤ length b → length c ≡ length b
-      pieces-size room = wrote-length {s = pieces i p} (omega arith) (t .wrote)
-
-      pub pieces-room : (more : ℕ) → at + w + more ≤ length b → next + more ≤ length c
-      pieces-room more room = omega (arith, t .wrote .place, pieces-size (omega arith))
-
-      pub pieces-turn : {d : List ℕ} {after : ℕ} (s : List ℕ) → i < n → at + w ≤ length b → s ≡ p i → Wrote c d next s after → PiecesAt b at n p d after (i + 1)
-      pieces-turn {d} {after} s h room e v = record {
-        few = omega arith;
-        wrote = subst (λ (l : List ℕ). Wrote b d at l after)
-            (ap (λ (x : List ℕ). pieces i p ++ x) (e ∙ ap p here) ∙ sym (pieces-more 0 i p) ∙ ap (λ (x : ℕ). pieces x p) (sym (add-one i)))
-            (wrote-then (omega arith) (t .wrote) v);
-      }
-        where
-          here : i ≡ 0 + i
-          here = omega arith
 
 -- ---- a row
 pub row-written : {b c d e : List ℕ} {at i j k : ℕ} (n m : ℕ) (ds names word : List ℕ) → n ≤ maxStrains → at + widestRow ≤ length b → word ≡ nameWritten names m

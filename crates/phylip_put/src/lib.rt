@@ -6,8 +6,9 @@ ghost use lib.ListN.{length};
 ghost use Rattle.matrix.specs.Limits.{maxStrains};
 ghost use Rattle.matrix.specs.Place.{pairCount};
 ghost use Rattle.writing.specs.Text.{Wrote};
+ghost use Rattle.pieces.specs.Pieces.{pieces};
 ghost use Rattle.phylip_text.specs.Form.{nameSize};
-ghost use Rattle.phylip_text.specs.Text.{pieces, cellWritten, valueAt, rowWritten, textOf, widestRow, widestText};
+ghost use Rattle.phylip_text.specs.Text.{cellWritten, valueAt, rowWritten, textOf, widestRow, widestText};
 
 // A cell, with the space before it.
 fn put_cell(text: &mut [u8], at: usize, units: u16) -> usize

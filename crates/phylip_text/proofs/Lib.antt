@@ -1,4 +1,3 @@
-pub mod Pieces
 pub mod Sizes
 pub mod Cells
 pub mod Rows

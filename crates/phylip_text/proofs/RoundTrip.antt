@@ -23,9 +23,10 @@ use Rattle.writing.proofs.Decimals.{decimal-small, decimal-step}
 use Rattle.digits.specs.Digits.{run, isBlank, isDigit, numberFrom}
 use Rattle.cells.specs.Cell.{cellOut, cellEntry}
 use Rattle.cells.specs.Row.{cellText}
+use Rattle.pieces.specs.Pieces.{piecesFrom, pieces}
 use Rattle.phylip_text.specs.Form.{past, nextLine, endBad, countSize, countOf, behindCount, nameOut, nameSize, cellsOf, rowText, cellAt, rowsOf, rowsBad, rowBad, decimalsOut, entryAt, halvesOut, distancesRead, namesRead}
 use Rattle.phylip_text.specs.Tests.{maxText, readTests, Reads, namesShort, nameByteOut, matterTests}
-use Rattle.phylip_text.specs.Text.{piecesFrom, pieces, valueAt, rowWritten, textOf}
+use Rattle.phylip_text.specs.Text.{valueAt, rowWritten, textOf}
 use Rattle.phylip_text.proofs.Sizes.{text-length}
 use Rattle.phylip_text.proofs.Cells.{run-digit, run-stops, number-digit, number-none}
 use Rattle.phylip_text.proofs.Rows.{line-next, line-ended, rows-are, row-good, row-in, row-are, row-name}

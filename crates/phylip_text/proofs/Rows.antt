@@ -17,8 +17,9 @@ use Rattle.matrix.specs.Place.{known}
 use Rattle.digits.specs.Digits.{run}
 use Rattle.cells.specs.Cell.{cellOut, cellEntry}
 use Rattle.cells.specs.Row.{behind, rest, cellText, cellBad}
+use Rattle.pieces.specs.Pieces.{piecesFrom, pieces}
 use Rattle.phylip_text.specs.Form.{endBad, nextLine, nameOut, nameSize, cellsOf, behindCells, rowBad, rowText}
-use Rattle.phylip_text.specs.Text.{piecesFrom, pieces, cellWritten, valueAt, nameWritten, rowWritten}
+use Rattle.phylip_text.specs.Text.{cellWritten, valueAt, nameWritten, rowWritten}
 use Rattle.phylip_text.proofs.Cells.{Stops, CellIs, cell-is}
 
 no-and : (b : Bool) → (b && false) ≡ false

@@ -10,9 +10,10 @@ use Rattle.exact.proofs.Decide.{by-cases}
 use Rattle.exact.proofs.Fill.{length-table}
 use Rattle.matrix.specs.Limits.{maxStrains, missing}
 use Rattle.writing.proofs.Decimals.{decimal-length}
+use Rattle.pieces.specs.Pieces.{pieces}
+use Rattle.pieces.proofs.Pieces.{pieces-length}
 use Rattle.phylip_text.specs.Form.{nameSize}
-use Rattle.phylip_text.specs.Text.{widestRow, widestText, pieces, cellWritten, valueAt, nameWritten, rowWritten, textOf}
-use Rattle.phylip_text.proofs.Pieces.{pieces-length}
+use Rattle.phylip_text.specs.Text.{widestRow, widestText, cellWritten, valueAt, nameWritten, rowWritten, textOf}
 
 pub cell-long : (e : ℕ) → length (cellWritten e) ≤ 7
 unfolding cellWritten

@@ -1,23 +1,15 @@
 -- The text of a matrix and names: LF behind the count and behind each row, one space before each decimal, four places.
 use mathlib.Core.Bool.{cond}
 use mathlib.Core.List.{List, [], _∷_, _++_}
-use Prim.Native.Nat.{ℕ, zero, suc, _+_, _*_, _/_, _%_}
+use Prim.Native.Nat.{ℕ, _+_, _*_, _/_, _%_}
 use lib.Dec.{eqb}
 use lib.ListN.{getD}
 use Rattle.exact.specs.Table.{table}
 use Rattle.matrix.specs.Limits.{missing}
 use Rattle.matrix.specs.Place.{pairPlace}
 use Rattle.writing.specs.Text.{decimal}
+use Rattle.pieces.specs.Pieces.{pieces}
 use Rattle.phylip_text.specs.Form.{nameSize}
-
--- p i, p (i + 1), .., n of them, one behind the other
-unfoldable pub piecesFrom : ℕ → ℕ → (ℕ → List ℕ) → List ℕ
-piecesFrom i zero p = []
-piecesFrom i (suc n) p = p i ++ piecesFrom (suc i) n p
-
--- p 0, p 1, .., p (n - 1)
-abbrev pub pieces : ℕ → (ℕ → List ℕ) → List ℕ
-pieces n p = piecesFrom 0 n p
 
 -- a cell with the space before it: -1 for a missing pair, or the units with four places
 unfoldable pub cellWritten : ℕ → List ℕ

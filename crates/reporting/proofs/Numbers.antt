@@ -7,7 +7,6 @@ use mathlib.Core.List.{List}
 use Prim.Native.Nat.{ℕ, _*_, _≤_, _<_}
 use native.Mathlib.Nat.{mul-le-mul, mul-le-mul-right}
 use native.Mathlib.Omega.{arith}
-use borrow.Author.Tests.{lt-ltb}
 use lib.Dec.{ltb}
 use lib.IntN.{ℤ, pos, natAbs, _-ℤ_, _*ℤ_}
 use lib.ListN.{length}
@@ -19,7 +18,7 @@ use Rattle.exact.specs.Sum.{sum, pairs}
 use Rattle.exact.specs.Table.{table, entryOf}
 use Rattle.exact.specs.LeastSquares.{sq, hops, sumR}
 use Rattle.exact.specs.Nearest.{nearest}
-use Rattle.exact.proofs.Fill.{length-table, getD-table, table-cong}
+use Rattle.exact.proofs.Fill.{length-table, table-cong}
 use Rattle.exact.proofs.LeastSquares.{path-cong}
 use Rattle.exact.proofs.Order.{≤-trans}
 use Rattle.exact.proofs.Sweep.{sum-abs}
@@ -37,6 +36,7 @@ use Rattle.fit_theory.proofs.Ranges.{bounds, rounded-range}
 use Rattle.paths.specs.Standing.{Standing}
 use Rattle.pairs.specs.Ready.{Ready}
 use Rattle.pairs.proofs.Lent as lent
+use Rattle.fit_numbers.proofs.Written.{rounded-entry}
 use Rattle.reporting.specs.Answers.{maxTreeLength}
 
 module _ (rule : Rule) (N : ℕ) (ds ps : List ℕ) (D : ℕ) (ns : List ℤ) (s : Stands rule N ds ps D ns) where
@@ -62,10 +62,7 @@ module _ (rule : Rule) (N : ℕ) (ds ps : List ℕ) (D : ℕ) (ns : List ℤ) (s
   -- the table of rounded lengths, zeros behind its edges
   module _ (ms : List ℤ) (e : ms ≡ table maxEdges (λ v. cond (ltb v (length ps)) (nearest D (entryOf ns v)) (pos 0))) where
     entry-is : (v : ℕ) → v < length ps → entryOf ms v ≡ roundedOf D ns v
-    entry-is v h =
-        ap (λ (x : List ℤ). entryOf x v) e
-        ∙ getD-table maxEdges (λ u. cond (ltb u (length ps)) (nearest D (entryOf ns u)) (pos 0)) (pos 0) v (omega (arith, edges-few))
-        ∙ ap (λ c. cond c (nearest D (entryOf ns v)) (pos 0)) (lt-ltb v (length ps) h)
+    entry-is v h = rounded-entry (length ps) D ns ms e edges-few v h
 
     pub ready-rounded : {cs : List ℕ} → Standing N (length ps) ps cs → Ready N (length ps) 1000 ds ps cs ms
     ready-rounded w = record {

@@ -1,0 +1,4 @@
+pub mod Lining
+pub mod Rows
+pub mod Whole
+pub mod Numbered
