@@ -1,4 +1,4 @@
-/* A plain reading of docs/RULES.md, The print of paths, in C, with the entry that the proved library has: for comparison. */
+/* A plain reading of docs/RULES.md, The pairs of a fit, in C, with the entry that the proved library has: for comparison. */
 #ifndef PLAIN_PATHS_H
 #define PLAIN_PATHS_H
 
