@@ -22,7 +22,8 @@ use Rattle.pages.proofs.Texts.{whole-page}
 use Rattle.newick_text.specs.Tree.{maxText}
 use Rattle.newick_write.specs.declared.Written.{Written}
 use Rattle.newick_write.specs.Answers.{roomOut, Told}
-use Rattle.newick_sheet.specs.Named.{namedTests, sheetTextTests, namedText}
+use Rattle.sheet_names.specs.Labels.{namedTests}
+use Rattle.newick_sheet.specs.Named.{sheetTextTests, namedText}
 use Rattle.newick_pages.specs.Texts.{newickText, newickPage}
 
 -- ---- a part of a buffer

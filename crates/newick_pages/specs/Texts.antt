@@ -4,7 +4,8 @@ use Prim.Native.Nat.{ℕ, _+_}
 use Rattle.lines.specs.Lines.{end}
 use Rattle.answer_lines.specs.Texts.{byAnswer}
 use Rattle.newick_text.specs.Tree.{maxText}
-use Rattle.newick_sheet.specs.Named.{namedTests, namedText}
+use Rattle.sheet_names.specs.Labels.{namedTests}
+use Rattle.newick_sheet.specs.Named.{namedText}
 
 -- the print
 abbrev pub newickText : List ℕ → List ℕ

@@ -45,9 +45,10 @@ use Rattle.newick_text.specs.Tree.{textOf, maxText}
 use Rattle.newick_text.specs.Tests.{thousand}
 use Rattle.newick_text.proofs.Trees.{children-cong}
 use Rattle.newick_write.specs.Answers.{rootOf, writeTests}
-use Rattle.newick_sheet.specs.Named.{namesFrom, labelTests, namedTests, thousandthsOf, namedText}
+use Rattle.sheet_names.specs.Labels.{namesFrom, labelTests, namedTests}
+use Rattle.newick_sheet.specs.Named.{thousandthsOf, namedText}
 use Rattle.newick_round.specs.Round.{writtenText}
-use Rattle.newick_sheet.proofs.Labels.{label-form}
+use Rattle.sheet_names.proofs.Labels.{label-form}
 
 -- ---- bytes from a place on
 module _ (s : List ℕ) (a : ℕ) where

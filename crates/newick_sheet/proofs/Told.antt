@@ -27,8 +27,9 @@ use Rattle.newick_write.specs.declared.Written.{Written}
 use Rattle.newick_write.specs.Answers.{treeText, Tellable, roomOut, Told}
 use Rattle.newick_write.proofs.Telling.{told-refused, told-passed}
 use Rattle.newick_sheet.specs.declared.Fitting.{Fitting}
-use Rattle.newick_sheet.specs.Named.{namesFrom, labelTests, namedTests, sheetTextTests, thousandthsOf, namedText, Labelled, Fitted, FittingAnswer}
-use Rattle.newick_sheet.proofs.Labels.{label-form, label-within}
+use Rattle.sheet_names.specs.Labels.{namesFrom, labelTests, namedTests, Labelled}
+use Rattle.newick_sheet.specs.Named.{sheetTextTests, thousandthsOf, namedText, Fitted, FittingAnswer}
+use Rattle.sheet_names.proofs.Labels.{label-form, label-within}
 
 module _ (s before : List ℕ) (x : Named) (a : Labelled s x) where
   abbrev answer : Answer

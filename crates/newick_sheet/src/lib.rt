@@ -1,9 +1,7 @@
 // The fitted tree of a sheet with names as Newick text: the sheet is judged as any other, with its names between the form and what its
 // records hold, and written after.
-use names::Named;
 use newick_words::MAX_TEXT;
 use newick_write::Written;
-use records::Layout;
 use tree::Tree;
 use verdict::Place;
 use verdict::Reason;
@@ -15,7 +13,7 @@ ghost use lib.ListN.{length};
 ghost use Rattle.verdict.specs.Answer.{pass};
 ghost use Rattle.records.specs.Form.{formTests};
 ghost use Rattle.newick_write.specs.Answers.{Told};
-ghost use Rattle.newick_sheet.specs.Named.{sheetTextTests, namedText, Labelled, FittingAnswer};
+ghost use Rattle.newick_sheet.specs.Named.{sheetTextTests, namedText, FittingAnswer};
 
 // The fit of a sheet with names: its strains, where its parents start and end among the bytes, its edges and their lengths in
 // thousandths, then zeros.
@@ -26,39 +24,6 @@ struct Fitting {
     end: usize,
     edges: usize,
     lengths: [i64; Tree::MAX_EDGES],
-}
-
-// A refusal, with no place of names.
-fn unlabelled(refusal: Refusal) -> Named
-    ensures { λ r. ⌜ (r .verdict ≡ Verdict.Refused refusal) × (r .count ≡ 0) ⌝ }
-{
-    Named {
-        verdict: Verdict::Refused(refusal),
-        count: 0,
-    }
-}
-
-// 1 to 5 over four records, then 28; where the names begin.
-fn labelled(s: &[u8]) -> Named
-    ensures { λ r. ⌜ Labelled (now (s .entry)) r ⌝ }
-{
-    let laid = records::records(s, 4);
-    let of_form = laid.verdict;
-    if let Verdict::Refused(refusal) = of_form {
-        return unlabelled(refusal);
-    }
-    let from = laid.starts[3] + Layout::HEAD;
-    let n = endian::u16_at(s, Layout::HEAD) as usize;
-    if names::names_out(s, from, n) {
-        return unlabelled(Refusal {
-            reason: Reason::Newick,
-            place: Place::Nowhere,
-        });
-    }
-    Named {
-        verdict: Verdict::Accepted,
-        count: from,
-    }
 }
 
 // A refusal, with zeros.
@@ -127,7 +92,7 @@ fn untold(refusal: Refusal) -> Written
 pub fn write_sheet(s: &[u8], text: &mut [u8]) -> Written
     ensures { λ r. ⌜ Told (sheetTextTests (now (s .entry)) (length (now (text .entry)))) (namedText (now (s .entry))) (now (text .entry)) (now (text .exit)) r ⌝ }
 {
-    let names = labelled(s);
+    let names = sheet_names::labelled(s);
     let of_names = names.verdict;
     if let Verdict::Refused(refusal) = of_names {
         return untold(refusal);

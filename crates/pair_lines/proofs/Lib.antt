@@ -1,4 +1,3 @@
-pub mod Lining
 pub mod Rows
 pub mod Whole
 pub mod Numbered

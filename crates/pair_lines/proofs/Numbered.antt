@@ -19,7 +19,8 @@ use Rattle.records.specs.Names.{nameStart}
 use Rattle.names.specs.Record.{nameOf}
 use Rattle.labels.specs.Labels.{numberNames}
 use Rattle.labels.proofs.Called.{number-name, number-short, number-within, numbers-end}
-use Rattle.pair_lines.specs.Lines.{pairLine, roundedPath, lineOf, rowOf, pairsText, NamesFrom}
+use Rattle.pair_line.specs.Line.{pairLine}
+use Rattle.pair_lines.specs.Lines.{roundedPath, lineOf, rowOf, pairsText, NamesFrom}
 
 -- strains that are called alike are printed alike
 module _ (N : ℕ) (ds ps : List ℕ) (D : ℕ) (ns : List ℤ) (one two : ℕ → List ℕ) (alike : (i : ℕ) → i < N → one i ≡ two i) where

@@ -24,14 +24,9 @@ use Rattle.pieces.specs.Pieces.{pieces}
 use Rattle.pieces.proofs.Pieces.{pieces-grow}
 use Rattle.records.specs.Names.{maxName}
 use Rattle.newick_put.specs.Put.{wordAt}
-use Rattle.pair_lines.specs.Lines.{dash, pairHead, pairLine, widestPair, NameThere, farthest, lineBy, rowBy}
-use Rattle.pair_lines.proofs.Lining.{name-length, head-length}
-
--- ---- a line
-pub line-long : (A B : List ℕ) (known : Bool) (d p q r : ℤ) → length A ≤ maxName → length B ≤ maxName → length (pairLine A B known d p q r) ≤ widestPair
-unfolding pairLine
-line-long A B true d p q r a b = simp length-append (omega (arith, head-length A B, fields-length (d ∷ p ∷ q ∷ r ∷ [])))
-line-long A B false d p q r a b = simp length-append (omega (arith, head-length A B, fields-length (p ∷ q ∷ [])))
+use Rattle.pair_line.specs.Line.{dash, pairHead, pairLine, widestPair, NameThere, farthest}
+use Rattle.pair_lines.specs.Lines.{lineBy, rowBy}
+use Rattle.pair_line.proofs.Lining.{name-length, line-long}
 
 module _ (names starts : List ℕ) (n : ℕ) (there : (k : ℕ) → k < n → NameThere names (getD starts k 0)) (K : ℕ) (ds : List ℕ) (par : ℕ → ℕ) (D : ℕ) (x y : ℕ → ℤ) where
   pub label-long : (k : ℕ) → k < n → length (wordAt names starts k) ≤ maxName

@@ -37,8 +37,9 @@ use Rattle.records.proofs.Decoding.{padded-before}
 use Rattle.names.specs.Record.{nameOf}
 use Rattle.names.proofs.Walking.{name-ends}
 use Rattle.newick_put.specs.Put.{wordAt}
-use Rattle.pair_lines.specs.Lines.{pairLine, lineOf, rowOf, pairsText, roundedPath, pairsPage, widestPair, NameThere, NamesFrom, lineBy, rowBy, rowsBy}
-use Rattle.pair_lines.proofs.Lining.{room-after}
+use Rattle.pair_line.specs.Line.{pairLine, widestPair, NameThere}
+use Rattle.pair_lines.specs.Lines.{lineOf, rowOf, pairsText, roundedPath, pairsPage, NamesFrom, lineBy, rowBy, rowsBy}
+use Rattle.pair_line.proofs.Lining.{room-after}
 
 -- ---- names, by the table of their starts
 module _ (names : List ℕ) (from n : ℕ) (f : NamesFrom names from n) (starts : List ℕ) (e : starts ≡ padded 0 maxStrains n (nameStart names from)) where

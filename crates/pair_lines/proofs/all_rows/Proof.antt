@@ -7,7 +7,8 @@ use Rattle.matrix.specs.Place.{rowStart}
 use Rattle.tree_theory.specs.Chain.{parentOf}
 use Rattle.pieces.proofs.Written.{PiecesAt, pieces-start, pieces-size, pieces-room, pieces-turn, pieces-end}
 use Rattle.newick_put.specs.Put.{wordAt}
-use Rattle.pair_lines.specs.Lines.{rowBy, rowsBy, widestPair}
+use Rattle.pair_line.specs.Line.{widestPair}
+use Rattle.pair_lines.specs.Lines.{rowBy, rowsBy}
 use Rattle.pair_lines.proofs.Rows.{rows-long, rows-within, rows-fit}
 use borrow.Author.Needs.{needs}
 use Rattle.pair_lines.proofs.all_rows.Statement.{statement}

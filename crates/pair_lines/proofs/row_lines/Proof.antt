@@ -8,7 +8,8 @@ use Rattle.matrix.proofs.Places.{place-bound}
 use Rattle.tree_theory.specs.Chain.{parentOf}
 use Rattle.pieces.proofs.Written.{PiecesAt, pieces-start, pieces-size, pieces-room, pieces-turn, pieces-end}
 use Rattle.newick_put.specs.Put.{wordAt}
-use Rattle.pair_lines.specs.Lines.{lineBy, rowBy, widestPair}
+use Rattle.pair_line.specs.Line.{widestPair}
+use Rattle.pair_lines.specs.Lines.{lineBy, rowBy}
 use Rattle.pair_lines.proofs.Rows.{lines-long, line-is, path-near, path-back}
 use borrow.Author.Needs.{needs}
 use Rattle.pair_lines.proofs.row_lines.Statement.{statement}

@@ -1,10 +1,10 @@
 -- The layout of four records; then the names from where the fourth has them.
 use mathlib.Core.Path.{sym, _∙_}
 use native.Mathlib.Omega.{arith}
-use Rattle.newick_sheet.proofs.Labels.{form-refused, from-small, head-there, names-within, names-refused, names-stand}
+use Rattle.sheet_names.proofs.Labels.{form-refused, from-small, head-there, names-within, names-refused, names-stand}
 use borrow.Author.Needs.{needs}
-use Rattle.newick_sheet.proofs.labelled.Statement.{statement}
-use Rattle.newick_sheet.proofs.labelled.Tie as tie
+use Rattle.sheet_names.proofs.labelled.Statement.{statement}
+use Rattle.sheet_names.proofs.labelled.Tie as tie
 
 records-requires : tie.Need-records-requires
 records-requires c κs = search needs

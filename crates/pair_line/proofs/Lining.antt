@@ -1,6 +1,6 @@
 -- The line of a pair, piece by piece: each piece goes where the one before it ends.
 use mathlib.Core.Path.{_≡_, refl, sym, ap, ap₂, _∙_, subst}
-use mathlib.Core.Bool.{Bool, true, not}
+use mathlib.Core.Bool.{Bool, true, false, not}
 use mathlib.Core.List.{List, [], _∷_, _++_, append-assoc, append-nil}
 use mathlib.Core.Logic.{_≢_}
 use Prim.Native.Nat.{ℕ, _+_, _-_, _*_, _≤_, _<_, _^_}
@@ -17,10 +17,12 @@ use Rattle.matrix.specs.Limits.{missing}
 use Rattle.matrix.specs.Place.{isMeasured, known}
 use Rattle.matrix.proofs.Looking.{known-of}
 use Rattle.writing.specs.Text.{signed, Wrote}
+use Rattle.lines.proofs.Sizes.{fields-length}
+use Rattle.records.specs.Names.{maxName}
 use Rattle.writing.proofs.Decimals.{signed-length}
 use Rattle.writing.proofs.Writing.{wrote-then, wrote-length}
 use Rattle.lines.specs.Lines.{end, fields, line, fieldsBy}
-use Rattle.pair_lines.specs.Lines.{dash, pairHead, pairLine, nameAt, farthest}
+use Rattle.pair_line.specs.Line.{dash, pairHead, pairLine, widestPair, nameAt, farthest}
 
 -- what is left of the room behind a piece
 pub room-after : {b c : List ℕ} {at m : ℕ} {s : List ℕ} (more : ℕ) → at + length s + more ≤ length b → Wrote b c at s m → m + more ≤ length c
@@ -104,3 +106,9 @@ module _ {b c d : List ℕ} {at m k : ℕ} (A B : List ℕ) (far D : ℕ) (p q :
       → Wrote b d at (pairLine A B (isMeasured far) (pos (known far)) p q (pos D *ℤ pos (known far) -ℤ p)) k
   unfolding pairLine
   line-measured e w = let yes : isMeasured far ≡ true = ap not (ne-eqb far missing e) in rw (known-of far yes, ne-eqb far missing e) (wrote-then (omega (arith, head-length A B)) v w)
+
+-- how long it is at the most
+pub line-long : (A B : List ℕ) (known : Bool) (d p q r : ℤ) → length A ≤ maxName → length B ≤ maxName → length (pairLine A B known d p q r) ≤ widestPair
+unfolding pairLine
+line-long A B true d p q r a b = simp length-append (omega (arith, head-length A B, fields-length (d ∷ p ∷ q ∷ r ∷ [])))
+line-long A B false d p q r a b = simp length-append (omega (arith, head-length A B, fields-length (p ∷ q ∷ [])))

@@ -1,11 +1,11 @@
 -- The names, and behind them what stands there by whether the pair was measured.
 use native.Mathlib.Omega.{arith}
 use mir.Facts.{toZ-ofZ}
-use Rattle.pair_lines.specs.Lines.{nameAt}
-use Rattle.pair_lines.proofs.Lining.{room-after, name-length, head-length, line-missing, line-measured}
+use Rattle.pair_line.specs.Line.{nameAt}
+use Rattle.pair_line.proofs.Lining.{room-after, name-length, head-length, line-missing, line-measured}
 use borrow.Author.Needs.{needs}
-use Rattle.pair_lines.proofs.pair_line.Statement.{statement}
-use Rattle.pair_lines.proofs.pair_line.Tie as tie
+use Rattle.pair_line.proofs.pair_line.Statement.{statement}
+use Rattle.pair_line.proofs.pair_line.Tie as tie
 
 put-head-requires : tie.Need-put-head-requires
 put-head-requires c κs = search needs

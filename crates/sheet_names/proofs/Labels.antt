@@ -22,7 +22,7 @@ use Rattle.reading.specs.Holds.{strainsOf}
 use Rattle.reading.proofs.Formed.{fronted}
 use Rattle.names.specs.Record.{namesOut}
 use Rattle.names.specs.declared.Named.{Named}
-use Rattle.newick_sheet.specs.Named.{namesFrom, namesBad, labelTests, Labelled}
+use Rattle.sheet_names.specs.Labels.{namesFrom, namesBad, labelTests, Labelled}
 
 module _ (s : List ℕ) (r : Layout) (a : LayoutAnswer 4 s r) where
   pub form-refused : (q : Refusal) (x : Named) → r .verdict ≡ Refused q → (x .verdict ≡ Refused q) × (x .count ≡ 0) → Labelled s x

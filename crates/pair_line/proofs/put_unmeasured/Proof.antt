@@ -4,10 +4,10 @@ use mir.Facts.{toZ-ofZ}
 use mir.Syntax.{w64}
 use mir.Val.{toZ, ofZ}
 use Rattle.writing.proofs.Decimals.{signed-length}
-use Rattle.pair_lines.proofs.Lining.{room-after, unmeasured-written}
+use Rattle.pair_line.proofs.Lining.{room-after, unmeasured-written}
 use borrow.Author.Needs.{needs}
-use Rattle.pair_lines.proofs.put_unmeasured.Statement.{statement}
-use Rattle.pair_lines.proofs.put_unmeasured.Tie as tie
+use Rattle.pair_line.proofs.put_unmeasured.Statement.{statement}
+use Rattle.pair_line.proofs.put_unmeasured.Tie as tie
 
 slice-aggregate-put-word : tie.Need-slice-aggregate-put-word
 slice-aggregate-put-word c = search needs

@@ -1,10 +1,10 @@
 -- Four numbers and the end of a line; the remainder is small enough.
 use native.Mathlib.Omega.{arith}
 use mir.Facts.{toZ-ofZ}
-use Rattle.pair_lines.proofs.Lining.{scaled-fits, left-fits, measured-written}
+use Rattle.pair_line.proofs.Lining.{scaled-fits, left-fits, measured-written}
 use borrow.Author.Needs.{needs}
-use Rattle.pair_lines.proofs.put_measured.Statement.{statement}
-use Rattle.pair_lines.proofs.put_measured.Tie as tie
+use Rattle.pair_line.proofs.put_measured.Statement.{statement}
+use Rattle.pair_line.proofs.put_measured.Tie as tie
 
 cast-distance : tie.Need-cast-distance
 cast-distance c = search needs

@@ -2,10 +2,10 @@
 use Prim.Native.Nat.{_+_}
 use native.Mathlib.Omega.{arith}
 use lib.ListN.{getD}
-use Rattle.pair_lines.proofs.Lining.{room-after, name-length, head-written}
+use Rattle.pair_line.proofs.Lining.{room-after, name-length, head-written}
 use borrow.Author.Needs.{needs}
-use Rattle.pair_lines.proofs.put_head.Statement.{statement}
-use Rattle.pair_lines.proofs.put_head.Tie as tie
+use Rattle.pair_line.proofs.put_head.Statement.{statement}
+use Rattle.pair_line.proofs.put_head.Tie as tie
 
 slice-aggregate-put-word : tie.Need-slice-aggregate-put-word
 slice-aggregate-put-word c = search needs
