@@ -27,8 +27,8 @@ MOST_UNSENT = 4 * BLOCK
 # how many answers, of how many bytes, and how long, wait for those behind them, to be flushed together
 MOST_HELD, MOST_HELD_BYTES, LONGEST_HELD = 1000, 1 << 20, 0.05
 BLANKS = b" \t"
-FIT = re.compile(rb"fit [0-9]+ ([0-9]+) [0-9]+")
-# behind a report's first line and its edges: length, square, mean
+FIT = re.compile(rb"fit ([0-9]+) ([0-9]+) [0-9]+\n")
+# behind a report's first line and its edges: length, square, mean. The pairs have the same first line, and behind it a line for each pair
 LINES_BEHIND_EDGES = 3
 
 
@@ -259,9 +259,9 @@ class Program:
         self.ended = not data
         *lines, self.torn = (self.torn + data).split(b"\n")
         for line in lines:
-            if not self.lines:
-                self.due = lines_due(line)
             self.lines.append(line + b"\n")
+            if len(self.lines) <= 2:
+                self.due = lines_due(*self.lines)
             if len(self.lines) == self.due:
                 if not self.asked:
                     raise Fault("the program answered what it was not asked")
@@ -275,12 +275,19 @@ class Program:
         return self.process.wait()
 
 
-def lines_due(first):
-    """How many lines an answer has, by its first one."""
+def shows_pairs(line):
+    return line.startswith(b"pair ")
+
+
+def lines_due(first, second=None):
+    """How many lines an answer has, by its first one and, where that is the line of a fit, the one behind it."""
     fit = FIT.fullmatch(first)
+    if fit and second is None:
+        return 2
     if fit:
-        return 1 + int(fit[1]) + LINES_BEHIND_EDGES
-    if first == b"ok" or first.startswith(b"refused "):
+        strains, edges = int(fit[1]), int(fit[2])
+        return 1 + (strains * (strains - 1) // 2 if shows_pairs(second) else edges + LINES_BEHIND_EDGES)
+    if first == b"ok\n" or first.startswith(b"refused "):
         return 1
     raise Fault("the program printed what is no answer")
 
@@ -317,7 +324,10 @@ def replay(program, journal):
 
 
 def damaged(journal, number, answer):
-    words = "is a report, which changes nothing" if answer.startswith(b"fit ") else answer.decode("latin-1").rstrip("\n")
+    first, *more = answer.split(b"\n")
+    words = first.decode("latin-1")
+    if words.startswith("fit "):
+        words = ("shows pairs" if shows_pairs(more[0]) else "is a report") + ", which changes nothing"
     return journal.fault(f"line {number}: {words}; the journal is damaged, and no call is answered")
 
 

@@ -11,6 +11,7 @@ The desk. It holds a matrix and a tree, or nothing, and for each of the benches 
     propose    20 bench not 1 or 2, 21 nothing posted, 11 to 14 by the plain verdict; takes the place of the bench's table
     withdraw   20, 21 nothing posted or nothing standing
     report     20, 21 as there, 15
+    pairs      20, 21 as there
 
 A call that is refused changes nothing.
 
@@ -22,6 +23,7 @@ by blanks, which are spaces and tabs, and blanks may stand before the first and 
     correct I J DISTANCE
     withdraw BENCH
     report BENCH
+    pairs BENCH
 
 A number is decimal digits, and leading zeros pass; a numerator may have a minus before them. A line of blanks alone, and one
 whose first byte is #, gets no answer; any other that is not of the form, and any of more than 16,384 bytes without its end,
@@ -42,6 +44,8 @@ import solver
 MAX_LINE = 16384
 MISSING = reading.MISSING
 OK = ["ok"]
+# what only shows something of a table
+SHOWN = "report", "pairs"
 
 
 class Desk:
@@ -104,6 +108,21 @@ class Desk:
             return refused((15,))
         return reading.Report(*self.posted, *self.tables[bench]).lines()
 
+    def pairs(self, bench):
+        """A line for each pair, in rows; a pair that nobody measured has a dash for its distance and one for its remainder."""
+        if bench not in self.tables:
+            return refused((20,))
+        if self.tables[bench] is None:
+            return refused((21,))
+        (n, distances, parents), (denominator, numerators) = self.posted, self.tables[bench]
+        below, rounded = reading.clusters(n, parents), [reading.nearest(x, denominator) for x in numerators]
+        out = ["fit %d %d %d" % (n, len(parents), denominator)]
+        for (i, j), distance in zip(reading.pairs_of(n), distances):
+            path, near = reading.path(below, numerators, i, j), reading.path(below, rounded, i, j)
+            known = distance != MISSING
+            out.append("pair %d %d %s %d %d %s" % (i, j, distance if known else "-", path, near, denominator * distance - path if known else "-"))
+        return out
+
 
 def refused(answer):
     return [reading.refused_line(answer)]
@@ -143,7 +162,7 @@ def call_of(line):
         return "post", (numbers[0], numbers[1:], [number(word) for word in rest[cut + 1:]])
     if name == b"propose" and len(rest) >= 2:
         return "propose", (number(rest[0]), number(rest[1]), [number(word, True) for word in rest[2:]])
-    if (name, len(rest)) in ((b"correct", 3), (b"withdraw", 1), (b"report", 1)):
+    if (name, len(rest)) in ((b"correct", 3), (b"withdraw", 1), (b"report", 1), (b"pairs", 1)):
         return name.decode(), tuple(number(word) for word in rest)
     raise NotOfTheForm
 
@@ -184,7 +203,8 @@ MALFORMED = [
     b"REPORT 1", b"reports 1", b"repor 1", b"report1", b"/", b"1", b"fit 4 5 2", b"ok", b"quit", b" # 1", b"\t#", b"report 1 # mine",
     b"report 1#", b"report\x001", b"report 1\0", b"\0", b"report\x0b1", b"report 1\x0c", b"\r", b"\r\r", b"report\r1", b"report 1\r",
     b"report 1\r ", b"\rreport 1", b"report \xc2\xa01", b"report \xd9\xa1", b"\xff", b"\xef\xbb\xbfreport 1", b"withdraw 1;",
-    b"report 1\\", b"'report' 1"]
+    b"report 1\\", b"'report' 1", b"pairs", b"pairs 1 1", b"pairs 0 1 2", b"pairs -1", b"pairs +1", b"pairs -0", b"pairs /", b"pairs x", b"pairs1", b"Pairs 1", b"PAIRS 1",
+    b"pair 1", b"pairss 1", b"pair 0 1", b"pair 0 1 3 6 3000 0", b"pairs 1\r", b"pairs\x001", b"pairs 1#", b"p 1", b"pa 1"]
 # a number with one of these added is the same number again where it is cut to so many bits
 CUTS = [2 ** 8, 2 ** 16, 2 ** 31, 2 ** 32, 2 ** 40, 2 ** 63, 2 ** 64, 2 ** 128, 10 ** 30]
 
@@ -362,9 +382,12 @@ class Maker:
     def report(self):
         return ["report", self.bench()]
 
+    def pairs(self):
+        return ["pairs", self.bench()]
+
     # lines
     def call(self):
-        kinds, often = zip(("post", 10), ("correct", 10), ("propose", 40), ("withdraw", 10), ("report", 22))
+        kinds, often = zip(("post", 10), ("correct", 10), ("propose", 40), ("withdraw", 10), ("report", 18), ("pairs", 8))
         return self.line(getattr(self, self.rng.choices(kinds, often)[0])())
 
     def spoilt(self):
@@ -412,6 +435,7 @@ def made(seed, count):
 # ---- checks of this reading
 A = b"post 4 3 7 8 6 9 5 / 4 4 5 5 5\n"
 FIT = b"propose 1 2 3 3 3 7 7\n"
+PAIRS = b"fit 4 5 2\npair 0 1 3 6 3000 0\npair 0 2 7 13 6500 1\npair 0 3 8 17 8500 -1\npair 1 2 6 13 6500 -1\npair 1 3 9 17 8500 1\npair 2 3 5 10 5000 0\n"
 REPORT = b"fit 4 5 2\nedge 0 3 1500\nedge 1 3 1500\nedge 2 3 1500\nedge 3 7 3500\nedge 4 7 3500\nlength 23\nsquare 2 1000000 44\nmean 2 2\n"
 
 
@@ -430,6 +454,8 @@ def check_examples():
     # the form
     for given in (b"report 1", b"report 1\n", b"report 1\r\n", b"  report\t 1 \t\n", b"report 0001\n", b"\treport 1"):
         assert last(given) == REPORT, given
+    for given in (b"pairs 1", b"pairs 1\r\n", b"  pairs\t 1 \t\n", b"pairs 0001\n", b"pairs 1".ljust(16384)):
+        assert last(given) == PAIRS, given
     for given in (b"report 1\r", b"report 1\r\r\n", b"report\r1\n", b"\rreport 1\n"):
         assert last(given) == bad, given
     assert alone(b"post 4 3 7 8 6 9 5 / 4 4 5 5 5\npropose 1 2 03 3 3 0007 7") == b"ok\nok\n"
@@ -465,7 +491,7 @@ def check_examples():
     for far in (b"300", b"260", b"6", b"4294967300", b"1" + b"0" * 5000):
         assert last(b"post 4 3 7 8 6 9 5 / 4 " + far + b" 5 5 5") == b"refused 16 vertex 1\n"
     for far in (2 ** 40, 2 ** 40 + 1, 2 ** 64 + 1, 257, 0, 3):
-        assert all(last(call % far) == off(20) for call in (b"report %d", b"withdraw %d", b"propose %d 2 3 3 3 7 7"))
+        assert all(last(call % far) == off(20) for call in (b"report %d", b"pairs %d", b"withdraw %d", b"propose %d 2 3 3 3 7 7"))
     for far in (2 ** 40, 2 ** 32, 2 ** 64, 4, 3):
         assert last(b"correct %d 3 9" % far) == last(b"correct 3 %d 9" % far) == off(24)
     for far in (2 ** 40, 2 ** 32 + 2, 2 ** 64 + 2, 1000001, 0):
@@ -479,13 +505,16 @@ def check_examples():
 def check_calls():
     """The order of the tests, and what each call leaves standing."""
     at = lambda *given: lines(A + FIT + b"\n".join(given)).decode().split("\n")[2:-1]
-    assert lines(b"correct 9 9 70000\nreport 1\nreport 3\nwithdraw 2\nwithdraw 0") == b"refused 21\nrefused 21\nrefused 20\nrefused 21\nrefused 20\n"
+    assert lines(b"correct 9 9 70000\nreport 1\nreport 3\npairs 1\npairs 3\nwithdraw 2\nwithdraw 0") == b"refused 21\nrefused 21\nrefused 20\nrefused 21\nrefused 20\nrefused 21\nrefused 20\n"
     assert at(b"correct 9 9 70000", b"correct 0 1 70000", b"correct 3 0 8", b"report 1") == ["refused 24", "refused 7", "ok", "refused 21"]
     gone = [b"correct 0 1 65535", b"correct 2 0 65535", b"correct 0 3 65535"]
     assert at(*gone) == ["ok", "ok", "refused 26 edge 0"]
     assert at(b"propose 1 2 3 3 3 7 6", b"report 1")[:2] == ["refused 14 edge 0 2", "fit 4 5 2"]
     assert at(b"propose 1 4 6 6 6 14 14", b"report 1")[:2] == ["ok", "fit 4 5 4"]
     assert at(b"withdraw 2", b"withdraw 1", b"withdraw 1", b"report 1") == ["refused 21", "ok", "refused 21", "refused 21"]
+    assert at(b"pairs 2", b"pairs 1", b"pairs 3", b"withdraw 1", b"pairs 1") == ["refused 21"] + PAIRS.decode().split("\n")[:-1] + ["refused 20", "ok", "refused 21"]
+    assert at(b"propose 2 4 6 6 6 14 14", b"pairs 1", b"pairs 2")[1::7] == ["fit 4 5 2", "fit 4 5 4"]
+    assert at(b"correct 0 1 65535", b"propose 1 2 2 2 3 7 8", b"pairs 1")[2:5] == ["fit 4 5 2", "pair 0 1 - 4 2000 -", "pair 0 2 7 13 6500 1"]
     assert at(b"propose 2 4 6 6 6 14 14", b"report 1", b"report 2")[1::9] == ["fit 4 5 2", "fit 4 5 4"]
     assert at(b"propose 2 2 3 3 3 7 7", b"withdraw 1", b"report 2")[:3] == ["ok", "ok", "fit 4 5 2"]
     assert at(A.strip(), b"report 1", b"report 2") == ["ok", "refused 21", "refused 21"]
@@ -532,8 +561,8 @@ def check_sequence(seed, count, seen):
     # any of a bench's proposals and withdrawals taken out: every answer but its own is the same
     rng = random.Random(seed)
     for bench in (1, 2):
-        own = [k for k, (_, call, _) in enumerate(calls) if call[0] in ("propose", "withdraw", "report") and call[1][0] == bench]
-        out = {k for k in own if calls[k][1][0] != "report" and rng.random() < 0.5}
+        own = [k for k, (_, call, _) in enumerate(calls) if call[0] in ("propose", "withdraw", *SHOWN) and call[1][0] == bench]
+        out = {k for k in own if calls[k][1][0] not in SHOWN and rng.random() < 0.5}
         left = [k for k in range(len(given)) if k not in out]
         rest = dict(zip(left, heard([given[k] for k in left])[0]))
         assert all(rest[k] == answers[k] for k in left if k not in own)
@@ -546,9 +575,9 @@ def check_sequences():
     for seed in range(60, 64):
         check_sequence(seed, 1500, seen)
     refusals = {"post": (4, 6, 7, 8, 9, 10, 16, 26), "correct": (21, 24, 7, 26), "propose": (20, 21, 11, 12, 13, 14),
-                "withdraw": (20, 21), "report": (20, 21)}
+                "withdraw": (20, 21), "report": (20, 21), "pairs": (20, 21)}
     due = {(name, "refused %d" % number) for name, numbers in refusals.items() for number in numbers}
-    due |= {(name, "ok") for name in refusals if name != "report"} | {("report", "fit"), ("line", "refused line"), ("none", "none")}
+    due |= {(name, "fit" if name in SHOWN else "ok") for name in refusals} | {("line", "refused line"), ("none", "none")}
     assert due == {key for key in seen if key[0] not in ("taken down by", "replaced by")}
     due |= {("taken down by", name) for name in ("post", "correct", "withdraw")} | {("replaced by", "propose")}
     assert due == set(seen) and min(seen.values()) >= 5

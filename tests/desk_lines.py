@@ -34,7 +34,7 @@ CALLS = 100000
 NUMBERS, SIGNED = rb"((?:[ \t]+[0-9]+)*)", rb"((?:[ \t]+-?[0-9]+)*)"
 FORMS = {name: re.compile(rb"[ \t]*" + name.encode() + rb"[ \t]+([0-9]+)" + rest + rb"[ \t]*") for name, rest in (
     ("post", NUMBERS + rb"[ \t]+/" + NUMBERS), ("propose", rb"[ \t]+([0-9]+)" + SIGNED),
-    ("correct", rb"[ \t]+([0-9]+)[ \t]+([0-9]+)"), ("withdraw", b""), ("report", b""))}
+    ("correct", rb"[ \t]+([0-9]+)[ \t]+([0-9]+)"), ("withdraw", b""), ("report", b""), ("pairs", b""))}
 
 
 def whole(digits):
@@ -183,7 +183,7 @@ class Maker(desk.Maker):
         if kind == 2:
             return rng.choice((b"x", b"report 1\r", b"\0", b"/ ", b"1 ", b"post 4 / ", b"-")) * (size // 2)
         if kind == 3:
-            head = rng.choice((b"report ", b"withdraw ", b"correct 0 1 ", b"propose 1 ", b"propose 1 1 -", b"post "))
+            head = rng.choice((b"report ", b"pairs ", b"withdraw ", b"correct 0 1 ", b"propose 1 ", b"propose 1 1 -", b"post "))
             end = b"" if head != b"post " else b" /"
             room = size - len(head) - len(end)
             return head + rng.choice((b"0" * (room - 1) + b"1", b"9" * room, b"1" + b"0" * (room - 1))) + end
@@ -323,9 +323,9 @@ def drive(words):
                 print("  line %d, %d bytes, %r: due %r, printed %r" % (number, len(line), line[:200], answer[:200], got[:200]))
                 break
             got = got[len(answer):]
-    numbers = {"post": (4, 6, 7, 8, 9, 10, 16, 26), "correct": (7, 21, 24, 26), "propose": (11, 12, 13, 14, 20, 21), "withdraw": (20, 21), "report": (20, 21)}
+    numbers = {"post": (4, 6, 7, 8, 9, 10, 16, 26), "correct": (7, 21, 24, 26), "propose": (11, 12, 13, 14, 20, 21), "withdraw": (20, 21), "report": (20, 21), "pairs": (20, 21)}
     due = {(name, "refused %d" % number) for name, all_of in numbers.items() for number in all_of}
-    due |= {(name, "fit" if name == "report" else "ok") for name in numbers} | {("wrong", "refused line"), ("nothing", "none")}
+    due |= {(name, "fit" if name in desk.SHOWN else "ok") for name in numbers} | {("wrong", "refused line"), ("nothing", "none")}
     if set(seen) != due or min(seen.values()) < 10:
         failed += 1
         print("not every answer was drawn: %r" % sorted(seen.items()))
@@ -340,14 +340,14 @@ def stored():
     post, propose = b"post 4 3 7 8 6 9 5 / 4 4 5 5 5", b"propose 1 2 3 3 3 7 7"
     big = 2 ** 40
     told = [
-        b"# nothing is posted yet", propose, b"report 1", b"withdraw 2", b"correct 0 3 9", b"correct 9 9 70000", b"propose 3 2 3 3 3 7 7", b"report 3",
-        b"# the story", post, propose, b"report 1", b"report 2", b"withdraw 2", b"correct 0 3 9", b"report 1", propose, b"correct 3 0 8", propose, b"report 1",
+        b"# nothing is posted yet", propose, b"report 1", b"withdraw 2", b"correct 0 3 9", b"correct 9 9 70000", b"propose 3 2 3 3 3 7 7", b"report 3", b"pairs 1", b"pairs 3",
+        b"# the story", post, propose, b"report 1", b"pairs 1", b"report 2", b"pairs 2", b"withdraw 2", b"correct 0 3 9", b"report 1", b"pairs 1", propose, b"correct 3 0 8", propose, b"report 1",
         b"# lines that are no calls, and change nothing", b"post", b"propose 1", b"post 4 3 7 8 6 9 5 4 4 5 5 5", b"report 1 1", b"propose 3 x",
         b"post 4 3 7 8 / 6 9 5 / 4 4 5 5 5", b"post / 4", b"post 4 3 7 8 6 9 5/ 4 4 5 5 5", b"report +1", b"report -1", b"withdraw -0", b"correct 0 3 -9", b"propose 1 -2 3 3 3 7 7",
-        b"propose 1 2 +3 3 3 7 7", b"propose 1 2 3 3 3 7 --7", b"Report 1", b"reports 1", b"report", b"correct 0 3", b"correct 0 3 9 9", b"withdraw", b" # not at the front",
+        b"propose 1 2 +3 3 3 7 7", b"propose 1 2 3 3 3 7 --7", b"Report 1", b"reports 1", b"report", b"correct 0 3", b"correct 0 3 9 9", b"withdraw", b"pairs", b"pairs 1 1", b"pair 1", b"Pairs 1", b"pairs -1", b" # not at the front",
         b"report 1\r\r", b"\rreport 1", b"report\x001", b"\xff", b"#" * 16385, b"report 1",
         b"# blank lines, and a comment with CR LF", b"", b" \t ", b"\r", b"# old\r", b"  report\t1 \r", b"report 0001", b"report 1".ljust(16384),
-        b"# the other bench, with the same lengths over 4", b"propose 2 4 6 6 6 14 14", b"report 2", b"withdraw 1", b"report 1", b"withdraw 1", b"report 2",
+        b"# the other bench, with the same lengths over 4", b"propose 2 4 6 6 6 14 14", b"report 2", b"pairs 2", b"withdraw 1", b"report 1", b"withdraw 1", b"report 2", b"\tpairs  02 ", b"pairs %d" % big,
         b"# postings that are refused", b"post 4 /", b"post 4 3 7 8 6 9 5 /", b"post 4 65536 7 8 6 9 5 / 4 4 5 5 5", b"post 4 3 70000 8 6 9 5 / 4 4 5 5 5",
         b"post 4 3 7 8 6 9 50001 / 4 4 5 5 5", b"post 4 3 7 8 6 9 5 / 4 300 5 5 5", b"post 4 3 7 8 6 9 5 / 4 4 260 5 5", b"post 4 3 7 8 6 9 5 / 4 4 5 5 4",
         b"post 4 3 7 8 6 9 5 / 5 5 5 4 5", b"post 4 3 65535 65535 65535 65535 5 / 4 4 5 5 5", b"post %d 3 7 8 6 9 5 / 4 4 5 5 5" % big,
@@ -355,9 +355,9 @@ def stored():
         b"# proposals, corrections and benches that are refused", b"propose 1 2", b"propose 3 2", b"propose 1 %d 3 3 3 7 7" % big, b"propose 1 0 3 3 3 7 7",
         b"propose 1 2 3 3 %d 7 7" % 10 ** 30, b"propose 1 2 3 -%d 3 7 7" % 10 ** 30, b"propose 1 2 3 3 3 7 6", b"propose %d 2 3 3 3 7 7" % big, b"report %d" % big,
         b"withdraw %d" % (2 ** 32 + 2), b"correct %d 3 9" % big, b"correct 0 0 9", b"correct 0 3 65536", b"correct 0 3 70000", b"report 2",
-        b"# pairs that nobody measured", b"correct 0 1 65535", b"correct 2 0 65535", b"correct 0 3 65535", b"post 4 65535 7 8 6 9 5 / 4 4 5 5 5", b"propose 1 2 2 2 3 7 8", b"report 1",
-        b"# the sheet's order, a minus, and -0", b"post 4 3 7 6 8 9 5 / 4 4 5 5 5", propose, b"post 3 1 1 4 / 3 3 3", b"propose 2 1 -1 2 2", b"report 2", b"post 3 0 0 0 / 3 3 3", b"propose 2 1 -0 00 -000",
-        b"# 64 strains", b"post 64" + b" 2" * 2016 + b" /" + b" 64" * 64, b"propose 2 1" + b" 1" * 64, b"report 2",
+        b"# pairs that nobody measured", b"correct 0 1 65535", b"correct 2 0 65535", b"correct 0 3 65535", b"post 4 65535 7 8 6 9 5 / 4 4 5 5 5", b"propose 1 2 2 2 3 7 8", b"report 1", b"pairs 1",
+        b"# the sheet's order, a minus, and -0", b"post 4 3 7 6 8 9 5 / 4 4 5 5 5", propose, b"post 3 1 1 4 / 3 3 3", b"propose 2 1 -1 2 2", b"report 2", b"pairs 2", b"post 3 0 0 0 / 3 3 3", b"propose 2 1 -0 00 -000",
+        b"# 64 strains", b"post 64" + b" 2" * 2016 + b" /" + b" 64" * 64, b"propose 2 1" + b" 1" * 64, b"report 2", b"pairs 2",
     ]
     return b"\n".join(told)
 

@@ -2,8 +2,6 @@
 use desk::Answered;
 use desk::Desk;
 use desk_lines::Line;
-use sheet::SheetFit;
-use verdict::Rule;
 use verdict::Verdict;
 ghost use mathlib.Core.Path.{_≡_};
 ghost use Prim.Native.Nat.{_≤_};
@@ -12,9 +10,10 @@ ghost use Rattle.verdict.specs.Answer.{answerOf};
 ghost use Rattle.writing.specs.Text.{Wrote};
 ghost use Rattle.lines.specs.Page.{pageSize};
 ghost use Rattle.answer_lines.specs.Texts.{byAnswer};
-ghost use Rattle.desk.specs.Held.{deskOf, Held};
+ghost use Rattle.pair_lines.specs.Lines.{pairsPage};
+ghost use Rattle.desk.specs.Held.{Held};
 ghost use Rattle.desk_lines.specs.Lines.{asMeaning, Within};
-ghost use Rattle.desk_answers.specs.Telling.{okLine, showText, Responds};
+ghost use Rattle.desk_answers.specs.Telling.{okLine, Responds};
 
 // The desk after a line, and how many bytes of the page its answer has.
 pub struct Told {
@@ -34,29 +33,6 @@ pub fn answer_line(verdict: Verdict, page: &mut [u8]) -> usize
             lines::refused_line(page, 0, verdict::number(Verdict::Refused(refusal)), place)
         }
     }
-}
-
-// The report of a bench's table, or the line of the refusal.
-fn report_lines(desk: Desk, bench: u32, page: &mut [u8]) -> usize
-    requires { ⌜ Held desk ⌝ }
-    requires { ⌜ pageSize ≤ length (now page) ⌝ }
-    ensures { λ r. ⌜ Wrote (now (page .entry)) (now (page .exit)) 0 (showText (deskOf desk) bench) r ⌝ }
-{
-    let posting = desk.posting;
-    let edges = posting.edges;
-    let mut rounded = tree::edge_zeros();
-    let report = desk_report::report(desk, bench, &mut rounded[..edges]);
-    let table = desk::table_of(desk, bench);
-    let numerators = table.numerators;
-    answer_lines::report_text(
-        Rule::Plain,
-        SheetFit {
-            report,
-            numerators,
-            rounded,
-        },
-        page,
-    )
 }
 
 // The answer to a call that may change the desk, and the desk after it.
@@ -83,7 +59,7 @@ pub fn respond(
 ) -> Told
     requires { ⌜ Held desk ⌝ }
     requires { ⌜ Within (now distances) (now parents) (now numerators) line ⌝ }
-    requires { ⌜ pageSize ≤ length (now page) ⌝ }
+    requires { ⌜ pairsPage ≤ length (now page) ⌝ }
     ensures { λ r. ⌜ Responds desk (asMeaning (now (distances .entry)) (now (parents .entry)) (now (numerators .entry)) line) (now (page .entry)) (now (page .exit)) r ⌝ }
 {
     match line {
@@ -109,9 +85,12 @@ pub fn respond(
             )
         }
         Line::Withdrawing(bench) => answered(desk_benches::withdraw(desk, bench), page),
-        Line::Reporting(bench) => Told {
-            desk,
-            length: report_lines(desk, bench, page),
-        },
+        Line::Showing(show) => {
+            let view = show.view;
+            Told {
+                desk,
+                length: desk_shows::show_lines(desk, view, show.bench, page),
+            }
+        }
     }
 }

@@ -8,7 +8,8 @@ use borrow.Author.Tests.{lt-ltb, le-ltb, eq-eqb, ne-eqb}
 use lib.ListN.{length, getD, take, drop}
 use Rattle.digits.specs.Digits.{run, same}
 use Rattle.desk_text.specs.Words.{isLetter, words}
-use Rattle.desk_text.specs.Meaning.{silent, wrong, postWord, proposeWord, correctWord, withdrawWord, reportWord, noMore, wordAt, ofWords, maxLine, isComment, meaningOf}
+use Rattle.desk_text.specs.Meaning.{silent, wrong, postWord, proposeWord, correctWord, withdrawWord, reportWord, pairsWord, noMore, wordAt, ofWords, maxLine, isComment, meaningOf}
+use Rattle.desk_text.specs.declared.View.the-variants as views
 use Rattle.desk_words.specs.Reads.{wordsAt, startAt, WordRead}
 use Rattle.desk_words.specs.declared.Word.{Word}
 use Rattle.desk_words.proofs.Reading.{first-word, words-behind}
@@ -36,11 +37,15 @@ module _ (w : List ℕ) where
         kind-withdraw e = λ ws. rw (post, propose, correct, e)
 
         module _ (withdraw : same w withdrawWord ≡ false) where
-          pub kind-report : same w reportWord ≡ true → KindOf w kinds.Report
+          pub kind-report : same w reportWord ≡ true → KindOf w (kinds.Show views.Report)
           kind-report e = λ ws. rw (post, propose, correct, withdraw, e)
 
-          pub kind-wrong : same w reportWord ≡ false → KindOf w kinds.Wrong
-          kind-wrong e = λ ws. rw (post, propose, correct, withdraw, e)
+          module _ (report : same w reportWord ≡ false) where
+            pub kind-pairs : same w pairsWord ≡ true → KindOf w (kinds.Show views.Pairs)
+            kind-pairs e = λ ws. rw (post, propose, correct, withdraw, report, e)
+
+            pub kind-wrong : same w pairsWord ≡ false → KindOf w kinds.Wrong
+            kind-wrong e = λ ws. rw (post, propose, correct, withdraw, report, e)
 
 -- ---- the whole line
 no-call : false ≡ true → (s : List ℕ) → length s ≤ maxLine

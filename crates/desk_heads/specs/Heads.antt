@@ -18,7 +18,7 @@ ofKind kinds.the-variants.Post ws = postIn ws
 ofKind kinds.the-variants.Propose ws = proposeIn ws
 ofKind kinds.the-variants.Correct ws = correctIn ws
 ofKind kinds.the-variants.Withdraw ws = benchIn (λ b. call (calls.withdraw b)) ws
-ofKind kinds.the-variants.Report ws = benchIn shows ws
+ofKind (kinds.the-variants.Show v) ws = benchIn (shows v) ws
 
 -- the kind that the first word makes a line
 abbrev pub KindOf : List ℕ → kinds.Kind → Type 0
@@ -32,7 +32,7 @@ isCall kinds.the-variants.Post = true
 isCall kinds.the-variants.Propose = true
 isCall kinds.the-variants.Correct = true
 isCall kinds.the-variants.Withdraw = true
-isCall kinds.the-variants.Report = true
+isCall (kinds.the-variants.Show v) = true
 
 -- the kind of a line, and where the words behind its first begin
 pub record HeadRead (s : List ℕ) (r : Head) : Type 0 where

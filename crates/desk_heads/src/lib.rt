@@ -1,4 +1,5 @@
 // What a line is by its length, its first byte and its first word.
+use desk_text::View;
 ghost use Rattle.desk_heads.specs.Heads.{KindOf, HeadRead};
 
 // The most bytes that a line may have without its end, and the most words that it can then have.
@@ -14,7 +15,7 @@ pub enum Kind {
     Propose,
     Correct,
     Withdraw,
-    Report,
+    Show(View),
 }
 
 fn kind_of(word: &[u8]) -> Kind
@@ -33,7 +34,10 @@ fn kind_of(word: &[u8]) -> Kind
         return Kind::Withdraw;
     }
     if digits::same(word, b"report") {
-        return Kind::Report;
+        return Kind::Show(View::Report);
+    }
+    if digits::same(word, b"pairs") {
+        return Kind::Show(View::Pairs);
     }
     Kind::Wrong
 }

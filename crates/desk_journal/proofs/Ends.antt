@@ -13,7 +13,8 @@ use Rattle.digits.proofs.Comparing.{same-list}
 use Rattle.digits.proofs.Reading.{both-true, digit-low}
 use Rattle.desk_theory.specs.Desk.{Desk, post, correct, propose, withdraw}
 use Rattle.desk_text.specs.Words.{wordOver, onto, words, isNumber, isMinus, isSigned, signedOf, valueOf, leading, behind}
-use Rattle.desk_text.specs.Meaning.{Meaning, silent, wrong, call, shows, byStrains, postWord, proposeWord, correctWord, withdrawWord, reportWord, slash, noMore, wordAt, ofForm, parentsIn, postIn, proposeIn, correctIn, benchIn, ofWords, maxLine, isComment, meaningOf}
+use Rattle.desk_text.specs.Meaning.{Meaning, silent, wrong, call, shows, byStrains, postWord, proposeWord, correctWord, withdrawWord, reportWord, pairsWord, slash, noMore, wordAt, ofForm, parentsIn, postIn, proposeIn, correctIn, benchIn, ofWords, maxLine, isComment, meaningOf}
+use Rattle.desk_text.specs.declared.View.the-variants as views
 use Rattle.desk_answers.specs.Telling.{okLine, textOn}
 use Rattle.desk_feed.specs.Feed.{inLine, feedAt, endOf}
 use Rattle.desk_journal.specs.Journal.{isOk}
@@ -113,7 +114,7 @@ abbrev spoken : Meaning → Bool
 spoken silent = false
 spoken wrong = false
 spoken (call c) = true
-spoken (shows b) = true
+spoken (shows v b) = true
 
 of-form : (ok : Bool) (m : Meaning) → spoken (ofForm ok m) ≡ true → (ok ≡ true) × (spoken m ≡ true)
 of-form true m e = (refl, e)
@@ -152,7 +153,7 @@ bench-plain m ws e =
     let (f, g) = both-true (isNumber (wordAt 0 ws)) (noMore (drop 1 ws)) a in
     from-first ws (number-plain (wordAt 0 ws) f) (none-plain (drop 1 ws) g)
 
--- one of the five words and what stands behind it, or what is tried next
+-- one of the six words and what stands behind it, or what is tried next
 either : (w v : List ℕ) (ws : List (List ℕ)) (m n : Meaning) → plain v ≡ true → (spoken m ≡ true → allPlain ws ≡ true) → (spoken n ≡ true → (plain w && allPlain ws) ≡ true)
     → spoken (cond (same w v) m n) ≡ true → (plain w && allPlain ws) ≡ true
 either w v ws m n p f g e = go (same w v) refl e
@@ -163,23 +164,27 @@ either w v ws m n p f g e = go (same w v) refl e
 
 of-words : (ws : List (List ℕ)) → spoken (ofWords ws) ≡ true → allPlain ws ≡ true
 of-words [] e = refl
-of-words (w ∷ ws) e = either w postWord ws (postIn ws) fourth refl (post-plain ws)
-    (either w proposeWord ws (proposeIn ws) third refl (propose-plain ws)
-    (either w correctWord ws (correctIn ws) second refl (correct-plain ws)
-    (either w withdrawWord ws (benchIn (λ b. call (withdraw b)) ws) first refl (bench-plain (λ b. call (withdraw b)) ws)
-    (either w reportWord ws (benchIn shows ws) wrong refl (bench-plain shows ws) (λ h. absurd (true≢false (sym h))))))) e
+of-words (w ∷ ws) e = either w postWord ws (postIn ws) fifth refl (post-plain ws)
+    (either w proposeWord ws (proposeIn ws) fourth refl (propose-plain ws)
+    (either w correctWord ws (correctIn ws) third refl (correct-plain ws)
+    (either w withdrawWord ws (benchIn (λ b. call (withdraw b)) ws) second refl (bench-plain (λ b. call (withdraw b)) ws)
+    (either w reportWord ws (benchIn (shows views.Report) ws) first refl (bench-plain (shows views.Report) ws)
+    (either w pairsWord ws (benchIn (shows views.Pairs) ws) wrong refl (bench-plain (shows views.Pairs) ws) (λ h. absurd (true≢false (sym h)))))))) e
   where
     first : Meaning
-    first = cond (same w reportWord) (benchIn shows ws) wrong
+    first = cond (same w pairsWord) (benchIn (shows views.Pairs) ws) wrong
 
     second : Meaning
-    second = cond (same w withdrawWord) (benchIn (λ b. call (withdraw b)) ws) first
+    second = cond (same w reportWord) (benchIn (shows views.Report) ws) first
 
     third : Meaning
-    third = cond (same w correctWord) (correctIn ws) second
+    third = cond (same w withdrawWord) (benchIn (λ b. call (withdraw b)) ws) second
 
     fourth : Meaning
-    fourth = cond (same w proposeWord) (proposeIn ws) third
+    fourth = cond (same w correctWord) (correctIn ws) third
+
+    fifth : Meaning
+    fifth = cond (same w proposeWord) (proposeIn ws) fourth
 
 meaning-plain : (l : List ℕ) → spoken (meaningOf l) ≡ true → plain l ≡ true
 unfolding meaningOf
@@ -195,7 +200,7 @@ unfolding same
 ok-spoken d silent e = absurd (true≢false (sym e))
 ok-spoken d wrong e = absurd (true≢false (sym e))
 ok-spoken d (call c) e = refl
-ok-spoken d (shows b) e = refl
+ok-spoken d (shows v b) e = refl
 
 -- ---- where the line ends that has LF behind it
 not-either : (a b : Bool) → not (a || b) ≡ true → (not a ≡ true) × (b ≡ false)

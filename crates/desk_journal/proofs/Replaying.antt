@@ -8,11 +8,16 @@ use Rattle.digits.specs.Digits.{same}
 use Rattle.digits.proofs.Comparing.{same-self, same-list}
 use Rattle.fit_theory.specs.Tests.{postedTests}
 use Rattle.answer_lines.specs.Texts.{byAnswer}
-use Rattle.desk_theory.specs.Desk.{Desk, Call, post, empty, answer, step, run}
+use Rattle.lines.specs.Lines.{fitTextBy}
+use Rattle.pair_lines.specs.Lines.{pairsText}
+use Rattle.desk_theory.specs.Desk.{Posting, nothing, matrixTree, Table, none, lengths, Desk, Call, post, report, empty, answer, step, run}
 use Rattle.desk_theory.specs.Promises.{Sound}
 use Rattle.desk_theory.proofs.Runs.{refused-same, benches}
+use Rattle.desk_text.specs.declared.View.{View}
+use Rattle.desk_text.specs.declared.View.the-variants as views
 use Rattle.desk_text.specs.Meaning.{Meaning, silent, wrong, call, shows, meaningOf}
 use Rattle.desk_answers.specs.Telling.{okLine, textOn, afterOn}
+use Rattle.desk_shows.specs.Shows.{edgesOf, tableText, showText}
 use Rattle.desk_journal.proofs.Ends.{read-again}
 use Rattle.desk_journal.specs.Journal.{answerTo, afterLine, runLines, answersTo, isOk, kept, withCall, callsIn, JournalHolds}
 
@@ -25,8 +30,29 @@ idle : (d : Desk) (m : Meaning) → same (textOn d m) okLine ≡ false → after
 idle d silent h = refl
 idle d wrong h = refl
 idle d (call c) h = idle-call d c (answer d c) refl h
-idle d (shows b) h = refl
+idle d (shows v b) h = refl
 
+-- ---- what only shows something: a print begins with f, a refusal with r
+print-no-ok : (v : View) (p : Posting) (t : Table) → same (tableText v p t) okLine ≡ false
+unfolding same fitTextBy pairsText
+print-no-ok v nothing t = refl
+print-no-ok v (matrixTree N ds ps) none = refl
+print-no-ok views.Report (matrixTree N ds ps) (lengths D ns) = refl
+print-no-ok views.Pairs (matrixTree N ds ps) (lengths D ns) = refl
+
+answer-no-ok : (a : Answer) (text : List ℕ) → same text okLine ≡ false → same (byAnswer a text) okLine ≡ false
+unfolding same
+answer-no-ok pass text h = h
+answer-no-ok (fault k p) text h = refl
+
+shown-no-ok : (d : Desk) (v : View) (b : ℕ) → same (showText d v b) okLine ≡ false
+unfolding showText
+shown-no-ok d v b = answer-no-ok (answer d (report b (edgesOf (d .posting)))) (tableText v (d .posting) (d .tables b)) (print-no-ok v (d .posting) (d .tables b))
+
+pub shown-left-out : (d : Desk) (l : List ℕ) (v : View) (b : ℕ) → meaningOf l ≡ shows v b → isOk d l ≡ false
+shown-left-out d l v b e = ap (λ (m : Meaning). same (textOn d m) okLine) e ∙ shown-no-ok d v b
+
+-- ---- replaying
 pub replayed : (ls : List (List ℕ)) (d : Desk) → runLines d (kept d ls) ≡ runLines d ls
 replayed [] d = refl
 replayed (l ∷ ls) d = go (isOk d l) refl (replayed ls (afterLine d l))
@@ -64,7 +90,7 @@ with-call : (m : Meaning) (cs : List Call) (d : Desk) → run d (withCall m cs) 
 with-call silent cs d = refl
 with-call wrong cs d = refl
 with-call (call c) cs d = refl
-with-call (shows b) cs d = refl
+with-call (shows v b) cs d = refl
 
 pub by-calls : (ls : List (List ℕ)) (d : Desk) → runLines d ls ≡ run d (callsIn ls)
 by-calls [] d = refl
@@ -74,7 +100,7 @@ with-on : (m : Meaning) (cs es : List Call) → withCall m (cs ++ es) ≡ withCa
 with-on silent cs es = refl
 with-on wrong cs es = refl
 with-on (call c) cs es = refl
-with-on (shows b) cs es = refl
+with-on (shows v b) cs es = refl
 
 calls-on : (before after : List (List ℕ)) → callsIn (before ++ after) ≡ callsIn before ++ callsIn after
 calls-on [] after = refl
@@ -94,6 +120,7 @@ still-right ls = rw (by-calls (kept empty ls) empty) (benches .stands (callsIn (
 pub journal-holds : JournalHolds
 journal-holds = record {
   read-again = read-again;
+  shown-left-out = shown-left-out;
   replayed = λ ls. replayed ls empty;
   answered-again = λ ls. answered-again ls empty;
   since-lines = since-lines;

@@ -1,7 +1,7 @@
 -- The desk's journal (RULES, The desk's journal): of the lines that were asked, those that got `ok`, as they came; and what holds of the desk
 -- that they are replayed on.
 use mathlib.Core.Path.{_≡_}
-use mathlib.Core.Bool.{Bool, true, cond}
+use mathlib.Core.Bool.{Bool, true, false, cond}
 use mathlib.Core.List.{List, [], _∷_, _++_, map}
 use Prim.Native.Nat.{ℕ}
 use lib.ListN.{length}
@@ -10,6 +10,7 @@ use Rattle.digits.specs.Digits.{same}
 use Rattle.fit_theory.specs.Tests.{postedTests}
 use Rattle.desk_theory.specs.Desk.{Desk, Call, post, empty, run}
 use Rattle.desk_theory.specs.Promises.{Sound}
+use Rattle.desk_text.specs.declared.View.{View}
 use Rattle.desk_text.specs.Meaning.{Meaning, silent, wrong, call, shows, meaningOf}
 use Rattle.desk_answers.specs.Telling.{okLine, textOn, afterOn}
 use Rattle.desk_feed.specs.Feed.{feedAt, endOf}
@@ -40,12 +41,12 @@ abbrev pub kept : Desk → List (List ℕ) → List (List ℕ)
 kept d [] = []
 kept d (l ∷ ls) = cond (isOk d l) (l ∷ kept (afterLine d l) ls) (kept (afterLine d l) ls)
 
--- the calls that lines mean; what is silent, wrong or a report is none
+-- the calls that lines mean; what is silent, wrong or only shows something is none
 abbrev pub withCall : Meaning → List Call → List Call
 withCall silent cs = cs
 withCall wrong cs = cs
 withCall (call c) cs = c ∷ cs
-withCall (shows b) cs = cs
+withCall (shows v b) cs = cs
 
 abbrev pub callsIn : List (List ℕ) → List Call
 callsIn [] = []
@@ -54,6 +55,8 @@ callsIn (l ∷ ls) = withCall (meaningOf l) (callsIn ls)
 pub record JournalHolds : Type 0 where
   -- a line that gets `ok`, written with LF behind it, is read again as the line that it was: no LF comes before that one, and no CR right before it
   pub read-again : (d : Desk) (l rest : List ℕ) → isOk d l ≡ true → (feedAt (l ++ (10 ∷ rest)) 0 ≡ length l) × (endOf (l ++ (10 ∷ rest)) 0 (length l) ≡ length l)
+  -- what only shows something of a table, its report or its pairs, is in no journal
+  pub shown-left-out : (d : Desk) (l : List ℕ) (v : View) (b : ℕ) → meaningOf l ≡ shows v b → isOk d l ≡ false
   -- replaying what was written gives the desk that answered
   pub replayed : (ls : List (List ℕ)) → runLines empty (kept empty ls) ≡ runLines empty ls
   -- and every line of it is answered `ok` again

@@ -11,6 +11,7 @@ use lib.ListN.{length, take, drop}
 use Rattle.exact.proofs.Decide.{by-cases}
 use Rattle.desk_theory.specs.Desk as calls
 use Rattle.desk_text.specs.Words.{words, isNumber, valueOf, isSigned, signedOf, leading, behind}
+use Rattle.desk_text.specs.declared.View.{View}
 use Rattle.desk_text.specs.Meaning.{Meaning, call, shows, noMore, wordAt, ofForm, proposeIn, correctIn, benchIn}
 use Rattle.desk_text.specs.Fields.{cutWord, cutDistance, cutNumerator, cut}
 use Rattle.desk_text.proofs.Cutting.{cut-low, cut-high}
@@ -19,7 +20,7 @@ use Rattle.desk_posts.specs.declared.Post.{Post}
 use Rattle.desk_lines.specs.Lines.{BenchRead, asMeaning, Within, LineIs}
 use Rattle.desk_lines.specs.declared.Bench.{Bench}
 use Rattle.desk_lines.specs.declared.Line.{Line}
-use Rattle.desk_lines.specs.declared.Line.the-variants.{Wrong, Posting, Correcting, Proposing, Withdrawing, Reporting}
+use Rattle.desk_lines.specs.declared.Line.the-variants.{Wrong, Posting, Correcting, Proposing, Withdrawing, Showing}
 
 -- ---- of the form, or not
 pub form-wrong : (b : Bool) (m : Meaning) (ds ps : List ℕ) (ns : List ℤ) → b ≡ false → LineIs (ofForm b m) ds ps ns Wrong
@@ -98,8 +99,8 @@ distance-fits v n e = by-cases (decLt 65535 n) (λ l. let q = cut-high 65535 655
 pub withdraw-wrong : (ws : List (List ℕ)) (r : Bench) → BenchRead ws r → r .found ≡ false → (ds ps : List ℕ) (ns : List ℤ) → LineIs (benchIn (λ b. call (calls.withdraw b)) ws) ds ps ns Wrong
 withdraw-wrong ws r h miss ds ps ns = form-wrong (isNumber (wordAt 0 ws) && noMore (drop 1 ws)) _ ds ps ns (sym (h .found-is) ∙ miss)
 
-pub report-wrong : (ws : List (List ℕ)) (r : Bench) → BenchRead ws r → r .found ≡ false → (ds ps : List ℕ) (ns : List ℤ) → LineIs (benchIn shows ws) ds ps ns Wrong
-report-wrong ws r h miss ds ps ns = form-wrong (isNumber (wordAt 0 ws) && noMore (drop 1 ws)) _ ds ps ns (sym (h .found-is) ∙ miss)
+pub show-wrong : (v : View) (ws : List (List ℕ)) (r : Bench) → BenchRead ws r → r .found ≡ false → (ds ps : List ℕ) (ns : List ℤ) → LineIs (benchIn (shows v) ws) ds ps ns Wrong
+show-wrong v ws r h miss ds ps ns = form-wrong (isNumber (wordAt 0 ws) && noMore (drop 1 ws)) _ ds ps ns (sym (h .found-is) ∙ miss)
 
 bench-value : (ws : List (List ℕ)) (r : Bench) → BenchRead ws r → r .found ≡ true → r .bench ≡ cutWord (valueOf (wordAt 0 ws))
 bench-value ws r h hit = h .bench-is ∙ ap (λ (b : Bool). cond b (cutWord (valueOf (wordAt 0 ws))) 0) hit
@@ -108,6 +109,6 @@ pub withdraw-right : (ws : List (List ℕ)) (r : Bench) → BenchRead ws r → r
 unfolding cut
 withdraw-right ws r h hit ds ps ns = form-right (isNumber (wordAt 0 ws) && noMore (drop 1 ws)) _ ds ps ns _ (sym (h .found-is) ∙ hit) (ap (λ (b : ℕ). call (calls.withdraw b)) (bench-value ws r h hit)) tt
 
-pub report-right : (ws : List (List ℕ)) (r : Bench) → BenchRead ws r → r .found ≡ true → (ds ps : List ℕ) (ns : List ℤ) → LineIs (benchIn shows ws) ds ps ns (Reporting (r .bench))
+pub show-right : (v : View) (ws : List (List ℕ)) (r : Bench) → BenchRead ws r → r .found ≡ true → (ds ps : List ℕ) (ns : List ℤ) → LineIs (benchIn (shows v) ws) ds ps ns (Showing (record { view = v; bench = r .bench }))
 unfolding cut
-report-right ws r h hit ds ps ns = form-right (isNumber (wordAt 0 ws) && noMore (drop 1 ws)) _ ds ps ns _ (sym (h .found-is) ∙ hit) (ap shows (bench-value ws r h hit)) tt
+show-right v ws r h hit ds ps ns = form-right (isNumber (wordAt 0 ws) && noMore (drop 1 ws)) _ ds ps ns _ (sym (h .found-is) ∙ hit) (ap (shows v) (bench-value ws r h hit)) tt

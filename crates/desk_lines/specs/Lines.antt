@@ -12,7 +12,7 @@ use Rattle.desk_text.specs.Fields.{cutWord, cut}
 use Rattle.desk_posts.specs.Posts.{asPosting}
 use Rattle.desk_lines.specs.declared.Bench.{Bench}
 use Rattle.desk_lines.specs.declared.Line.{Line}
-use Rattle.desk_lines.specs.declared.Line.the-variants.{Silent, Wrong, Posting, Correcting, Proposing, Withdrawing, Reporting}
+use Rattle.desk_lines.specs.declared.Line.the-variants.{Silent, Wrong, Posting, Correcting, Proposing, Withdrawing, Showing}
 
 -- "BENCH" alone
 pub record BenchRead (ws : List (List ℕ)) (r : Bench) : Type 0 where
@@ -27,7 +27,7 @@ asMeaning ds ps ns (Posting p) = asPosting ds ps p
 asMeaning ds ps ns (Correcting c) = call (calls.correct (record { i = c .i; j = c .j; far = c .far }))
 asMeaning ds ps ns (Proposing p) = call (calls.propose (p .bench) (p .d) (take (p .count) ns))
 asMeaning ds ps ns (Withdrawing b) = call (calls.withdraw b)
-asMeaning ds ps ns (Reporting b) = shows b
+asMeaning ds ps ns (Showing s) = shows (s .view) (s .bench)
 
 -- no more entries are named than the tables have
 abbrev pub Within : List ℕ → List ℕ → List ℤ → Line → Type 0
@@ -37,7 +37,7 @@ Within ds ps ns (Posting p) = (p .pairs ≤ length ds) × (p .edges ≤ length p
 Within ds ps ns (Correcting c) = Unit {0}
 Within ds ps ns (Proposing p) = p .count ≤ length ns
 Within ds ps ns (Withdrawing b) = Unit {0}
-Within ds ps ns (Reporting b) = Unit {0}
+Within ds ps ns (Showing s) = Unit {0}
 
 pub record LineIs (m : Meaning) (ds ps : List ℕ) (ns : List ℤ) (r : Line) : Type 0 where
   pub means : asMeaning ds ps ns r ≡ cut m

@@ -1,5 +1,6 @@
 // What stands behind a line's first word, read from its bytes: a call whose tables stand at the front of lent ones, or nothing that has a form.
 use desk_posts::Post;
+use desk_text::View;
 ghost use mathlib.Core.Path.{_≡_};
 ghost use mathlib.Core.List.{List};
 ghost use Prim.Native.Nat.{ℕ, _≤_};
@@ -24,6 +25,12 @@ pub struct Propose {
     pub count: usize,
 }
 
+// What is to be shown, and of which bench's table.
+pub struct Show {
+    pub view: View,
+    pub bench: u32,
+}
+
 pub enum Line {
     Silent,
     Wrong,
@@ -31,7 +38,7 @@ pub enum Line {
     Correcting(Correct),
     Proposing(Propose),
     Withdrawing(u32),
-    Reporting(u32),
+    Showing(Show),
 }
 
 // Behind "post".
@@ -109,7 +116,7 @@ struct Bench {
     bench: u32,
 }
 
-// Behind "withdraw" and "report".
+// Behind "withdraw", "report" and "pairs".
 fn bench_of(line: &[u8], at: usize) -> Bench
     requires { ⌜ at ≤ length (now line) ⌝ }
     ensures { λ r. ⌜ BenchRead (wordsAt (now (line .entry)) at) r ⌝ }
@@ -145,14 +152,17 @@ pub fn withdraw_line(line: &[u8], at: usize) -> Line
     Line::Withdrawing(read.bench)
 }
 
-// Behind "report".
-pub fn report_line(line: &[u8], at: usize) -> Line
+// Behind "report" and "pairs".
+pub fn show_line(line: &[u8], at: usize, view: View) -> Line
     requires { ⌜ at ≤ length (now line) ⌝ }
-    ensures { λ r. ⌜ ((ds ps : List ℕ) (ns : List ℤ) → LineIs (benchIn shows (wordsAt (now (line .entry)) at)) ds ps ns r) ⌝ }
+    ensures { λ r. ⌜ ((ds ps : List ℕ) (ns : List ℤ) → LineIs (benchIn (shows view) (wordsAt (now (line .entry)) at)) ds ps ns r) ⌝ }
 {
     let read = bench_of(line, at);
     if !read.found {
         return Line::Wrong;
     }
-    Line::Reporting(read.bench)
+    Line::Showing(Show {
+        view,
+        bench: read.bench,
+    })
 }

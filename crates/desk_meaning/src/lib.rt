@@ -27,6 +27,6 @@ pub fn read_line(
         Kind::Propose => desk_lines::propose_line(line, at, numerators),
         Kind::Correct => desk_lines::correct_line(line, at),
         Kind::Withdraw => desk_lines::withdraw_line(line, at),
-        Kind::Report => desk_lines::report_line(line, at),
+        Kind::Show(view) => desk_lines::show_line(line, at, view),
     }
 }

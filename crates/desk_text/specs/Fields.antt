@@ -47,4 +47,4 @@ unfoldable pub cut : Meaning → Meaning
 cut silent = silent
 cut wrong = wrong
 cut (call c) = call (cutCall c)
-cut (shows b) = shows (cutWord b)
+cut (shows v b) = shows v (cutWord b)

@@ -10,16 +10,18 @@ use Rattle.matrix.specs.Limits.{maxStrains}
 use Rattle.matrix.specs.Place.{pairCount, fromRows}
 use Rattle.digits.specs.Digits.{same}
 use Rattle.desk_theory.specs.Desk.{Call, post, correct, propose, withdraw}
+use Rattle.desk_text.specs.declared.View.{View}
+use Rattle.desk_text.specs.declared.View.the-variants.{Report, Pairs}
 use Rattle.desk_text.specs.Words.{words, isNumber, valueOf, isSigned, signedOf, leading, behind}
 
--- silent: no answer is due. wrong: the line is not of the form. call: that call. shows: the report of that bench
+-- silent: no answer is due. wrong: the line is not of the form. call: that call. shows: what is to be shown of that bench's table
 pub data Meaning : Type 0 where
   silent : Meaning
   wrong : Meaning
   call : Call → Meaning
-  shows : ℕ → Meaning
+  shows : View → ℕ → Meaning
 
--- "post", "propose", "correct", "withdraw", "report", "/"
+-- "post", "propose", "correct", "withdraw", "report", "pairs", "/"
 abbrev pub postWord : List ℕ
 postWord = 112 ∷ 111 ∷ 115 ∷ 116 ∷ []
 
@@ -34,6 +36,9 @@ withdrawWord = 119 ∷ 105 ∷ 116 ∷ 104 ∷ 100 ∷ 114 ∷ 97 ∷ 119 ∷ []
 
 abbrev pub reportWord : List ℕ
 reportWord = 114 ∷ 101 ∷ 112 ∷ 111 ∷ 114 ∷ 116 ∷ []
+
+abbrev pub pairsWord : List ℕ
+pairsWord = 112 ∷ 97 ∷ 105 ∷ 114 ∷ 115 ∷ []
 
 abbrev pub slash : List ℕ
 slash = 47 ∷ []
@@ -73,7 +78,7 @@ abbrev pub correctIn : List (List ℕ) → Meaning
 correctIn ws = ofForm (isNumber (wordAt 0 ws) && (isNumber (wordAt 1 ws) && (isNumber (wordAt 2 ws) && noMore (drop 3 ws))))
     (call (correct (record { i = valueOf (wordAt 0 ws); j = valueOf (wordAt 1 ws); far = valueOf (wordAt 2 ws) })))
 
--- behind "withdraw" and "report": "BENCH"
+-- behind "withdraw", "report" and "pairs": "BENCH"
 abbrev pub benchIn : (ℕ → Meaning) → List (List ℕ) → Meaning
 benchIn m ws = ofForm (isNumber (wordAt 0 ws) && noMore (drop 1 ws)) (m (valueOf (wordAt 0 ws)))
 
@@ -84,7 +89,8 @@ ofWords (w ∷ ws) =
     (cond (same w proposeWord) (proposeIn ws)
     (cond (same w correctWord) (correctIn ws)
     (cond (same w withdrawWord) (benchIn (λ b. call (withdraw b)) ws)
-    (cond (same w reportWord) (benchIn shows ws) wrong))))
+    (cond (same w reportWord) (benchIn (shows Report) ws)
+    (cond (same w pairsWord) (benchIn (shows Pairs) ws) wrong)))))
 
 -- the most bytes that a line may have, and the most words that it can then have
 abbrev pub maxLine : ℕ

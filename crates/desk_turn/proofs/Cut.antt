@@ -15,7 +15,9 @@ use Rattle.digits.specs.Digits.{same}
 use Rattle.desk_theory.specs.Desk as calls
 use Rattle.desk_theory.specs.Promises.{PostedWell}
 use Rattle.desk_text.specs.Words.{words, isNumber, valueOf, isSigned, signedOf, leading, behind}
-use Rattle.desk_text.specs.Meaning.{Meaning, silent, wrong, call, shows, postWord, proposeWord, correctWord, withdrawWord, reportWord, slash, noMore, ofForm, postIn, parentsIn, proposeIn, correctIn, benchIn, byStrains, meaningOf, ofWords, isComment, maxLine, maxWords, wordAt}
+use Rattle.desk_text.specs.Meaning.{Meaning, silent, wrong, call, shows, postWord, proposeWord, correctWord, withdrawWord, reportWord, pairsWord, slash, noMore, ofForm, postIn, parentsIn, proposeIn, correctIn, benchIn, byStrains, meaningOf, ofWords, isComment, maxLine, maxWords, wordAt}
+use Rattle.desk_text.specs.declared.View.{View}
+use Rattle.desk_text.specs.declared.View.the-variants as views
 use Rattle.desk_text.specs.Fields.{cut}
 use Rattle.desk_text.proofs.Cutting.{Few, cut-answer, cut-step, cut-same}
 use Rattle.desk_text.proofs.Splitting.{few-words}
@@ -25,16 +27,18 @@ use Rattle.desk.specs.declared.Desk.{Desk}
 use Rattle.desk.specs.Held.{deskOf, Held}
 use Rattle.desk_lines.specs.declared.Line.{Line}
 use Rattle.desk_lines.specs.Lines.{asMeaning, LineIs}
-use Rattle.desk_answers.specs.Telling.{okLine, edgesOf, tableText, showText, textOn, afterOn, Responds}
+use Rattle.desk_answers.specs.Telling.{okLine, textOn, afterOn, Responds}
+use Rattle.desk_shows.specs.Shows.{edgesOf, tableText, showText}
+use Rattle.desk_shows.proofs.Showing.{by-answer-cong}
 use Rattle.desk_answers.specs.declared.Told.{Told}
-use Rattle.desk_answers.proofs.Telling.{by-answer-cong, well}
+use Rattle.desk_answers.proofs.Telling.{well}
 
 -- ---- cutting
 abbrev FewIn : Meaning → Type 0
 FewIn silent = Unit {0}
 FewIn wrong = Unit {0}
 FewIn (call c) = Few c
-FewIn (shows b) = Unit {0}
+FewIn (shows v b) = Unit {0}
 
 form-few : (b : Bool) (m : Meaning) → FewIn m → FewIn (ofForm b m)
 form-few true m h = h
@@ -67,8 +71,8 @@ module _ (ws : List (List ℕ)) where
   withdraw-few : FewIn (benchIn (λ b. call (calls.withdraw b)) ws)
   withdraw-few = form-few (isNumber (wordAt 0 ws) && noMore (drop 1 ws)) (call (calls.withdraw (valueOf (wordAt 0 ws)))) tt
 
-  report-few : FewIn (benchIn shows ws)
-  report-few = form-few (isNumber (wordAt 0 ws) && noMore (drop 1 ws)) (shows (valueOf (wordAt 0 ws))) tt
+  show-few : (v : View) → FewIn (benchIn (shows v) ws)
+  show-few v = form-few (isNumber (wordAt 0 ws) && noMore (drop 1 ws)) (shows v (valueOf (wordAt 0 ws))) tt
 
 words-few : (ws : List (List ℕ)) → length ws ≤ maxWords → FewIn (ofWords ws)
 words-few [] h = tt
@@ -77,7 +81,8 @@ words-few (w ∷ ws) h =
     (either-few (same w proposeWord) (proposeIn ws) _ (propose-few ws)
     (either-few (same w correctWord) (correctIn ws) _ (correct-few ws)
     (either-few (same w withdrawWord) (benchIn (λ b. call (calls.withdraw b)) ws) _ (withdraw-few ws)
-    (either-few (same w reportWord) (benchIn shows ws) wrong (report-few ws) tt))))
+    (either-few (same w reportWord) (benchIn (shows views.Report) ws) _ (show-few ws views.Report)
+    (either-few (same w pairsWord) (benchIn (shows views.Pairs) ws) wrong (show-few ws views.Pairs) tt)))))
 
 few-meaning : (s : List ℕ) → FewIn (meaningOf s)
 unfolding meaningOf
@@ -93,15 +98,15 @@ module _ (d : calls.Desk) (w : PostedWell (d .posting)) where
   text-cut silent f = refl
   text-cut wrong f = refl
   text-cut (call c) f = ap (λ (a : Answer). byAnswer a okLine) (cut-answer d w c f)
-  text-cut (shows b) f = by-answer-cong _ (calls.answer d (calls.report b (edgesOf (d .posting)))) _ _ (cut-answer d w (calls.report b (edgesOf (d .posting))) tt)
-      (λ e. ap (λ (c : calls.Call). tableText (d .posting) (d .tables (calls.benchOf c))) (cut-same d w (calls.report b (edgesOf (d .posting))) tt e))
+  text-cut (shows v b) f = by-answer-cong _ (calls.answer d (calls.report b (edgesOf (d .posting)))) _ _ (cut-answer d w (calls.report b (edgesOf (d .posting))) tt)
+      (λ e. ap (λ (c : calls.Call). tableText v (d .posting) (d .tables (calls.benchOf c))) (cut-same d w (calls.report b (edgesOf (d .posting))) tt e))
 
   after-cut : (m : Meaning) → FewIn m → afterOn d (cut m) ≡ afterOn d m
   unfolding cut
   after-cut silent f = refl
   after-cut wrong f = refl
   after-cut (call c) f = cut-step d w c f
-  after-cut (shows b) f = refl
+  after-cut (shows v b) f = refl
 
 pub line-told : (d : Desk) (s ds ps : List ℕ) (ns : List ℤ) (l : Line) (before after : List ℕ) (r : Told) → Held d → LineIs (meaningOf s) ds ps ns l
     → Responds d (asMeaning ds ps ns l) before after r → Responds d (meaningOf s) before after r

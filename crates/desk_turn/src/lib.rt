@@ -3,7 +3,7 @@ use desk::Desk;
 use desk_answers::Told;
 ghost use Prim.Native.Nat.{_≤_};
 ghost use lib.ListN.{length};
-ghost use Rattle.lines.specs.Page.{pageSize};
+ghost use Rattle.pair_lines.specs.Lines.{pairsPage};
 ghost use Rattle.desk_text.specs.Meaning.{maxWords, meaningOf};
 ghost use Rattle.desk.specs.Held.{Held};
 ghost use Rattle.desk_answers.specs.Telling.{Responds};
@@ -19,7 +19,7 @@ pub fn tell(
     page: &mut [u8],
 ) -> Told
     requires { ⌜ Held desk ⌝ }
-    requires { ⌜ (maxWords ≤ length (now numbers)) × (maxWords ≤ length (now distances)) × (maxWords ≤ length (now parents)) × (maxWords ≤ length (now numerators)) × (pageSize ≤ length (now page)) ⌝ }
+    requires { ⌜ (maxWords ≤ length (now numbers)) × (maxWords ≤ length (now distances)) × (maxWords ≤ length (now parents)) × (maxWords ≤ length (now numerators)) × (pairsPage ≤ length (now page)) ⌝ }
     ensures { λ r. ⌜ Responds desk (meaningOf (now (line .entry))) (now (page .entry)) (now (page .exit)) r ⌝ }
 {
     let meaning = desk_meaning::read_line(line, numbers, distances, parents, numerators);

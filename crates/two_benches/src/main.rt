@@ -1,12 +1,13 @@
-// Reads calls on a desk from standard input, one a line, and answers each before it reads on: `ok`, the report, `refused`, the number and
-// the place, or `refused line` (RULES, The desk's lines). Where reading or writing fails nothing more is read.
+// Reads calls on a desk from standard input, one a line, and answers each before it reads on: `ok`, the report, the pairs, `refused`, the
+// number and the place, or `refused line` (RULES, The desk's lines). Where reading or writing fails nothing more is read.
 use desk::Desk;
 use desk_heads::MAX_WORDS;
+use pair_lines::PAGE;
 use streams::Reading;
 ghost use mathlib.Core.Path.{_≡_};
 ghost use Prim.Native.Nat.{_+_, _≤_, _<_};
 ghost use lib.ListN.{length};
-ghost use Rattle.lines.specs.Page.{pageSize};
+ghost use Rattle.pair_lines.specs.Lines.{pairsPage};
 ghost use Rattle.desk_text.specs.Meaning.{maxLine, maxWords};
 ghost use Rattle.desk.specs.Held.{Held};
 
@@ -39,6 +40,13 @@ fn no_numerators() -> [i64; MAX_WORDS]
     [0; MAX_WORDS]
 }
 
+// Zeros, room for every answer.
+fn page() -> [u8; PAGE]
+    ensures { λ r. ⌜ length r ≡ pairsPage ⌝ }
+{
+    [0; PAGE]
+}
+
 // The desk after a line, and whether its answer went out.
 struct Turned {
     desk: Desk,
@@ -56,7 +64,7 @@ fn turn(
     page: &mut [u8],
 ) -> Turned
     requires { ⌜ Held desk ⌝ }
-    requires { ⌜ (maxWords ≤ length (now numbers)) × (maxWords ≤ length (now distances)) × (maxWords ≤ length (now parents)) × (maxWords ≤ length (now numerators)) × (pageSize ≤ length (now page)) ⌝ }
+    requires { ⌜ (maxWords ≤ length (now numbers)) × (maxWords ≤ length (now distances)) × (maxWords ≤ length (now parents)) × (maxWords ≤ length (now numerators)) × (pairsPage ≤ length (now page)) ⌝ }
     ensures { λ r. ⌜ Held (r .desk) ⌝ }
 {
     let told = desk_turn::tell(desk, line, numbers, distances, parents, numerators, page);
@@ -91,7 +99,7 @@ fn one(
     page: &mut [u8],
 ) -> Turned
     requires { ⌜ Held desk ⌝ }
-    requires { ⌜ (from ≤ to) × (to ≤ length (now space)) × (maxWords ≤ length (now numbers)) × (maxWords ≤ length (now distances)) × (maxWords ≤ length (now parents)) × (maxWords ≤ length (now numerators)) × (pageSize ≤ length (now page)) ⌝ }
+    requires { ⌜ (from ≤ to) × (to ≤ length (now space)) × (maxWords ≤ length (now numbers)) × (maxWords ≤ length (now distances)) × (maxWords ≤ length (now parents)) × (maxWords ≤ length (now numerators)) × (pairsPage ≤ length (now page)) ⌝ }
     ensures { λ r. ⌜ Held (r .desk) ⌝ }
 {
     if long {
@@ -109,17 +117,16 @@ fn one(
 }
 
 // Every line of the buffer's first `count` bytes whose end has come. A line that began before the buffer is too long, whatever it holds:
-// it is answered as any line too long is, by the whole buffer.
-fn lines(desk: Desk, began: bool, space: &[u8], count: usize) -> Left
+// it is answered as any line too long is, by the whole buffer. The page is lent, for it is large and need not be blank.
+fn lines(desk: Desk, began: bool, space: &[u8], count: usize, page: &mut [u8]) -> Left
     requires { ⌜ Held desk ⌝ }
-    requires { ⌜ count ≤ length (now space) ⌝ }
+    requires { ⌜ (count ≤ length (now space)) × (pairsPage ≤ length (now page)) ⌝ }
     ensures { λ r. ⌜ Held (r .desk) × (r .at ≤ count) ⌝ }
 {
     let mut numbers = no_numbers();
     let mut distances = no_numbers();
     let mut parents = no_bytes();
     let mut numerators = no_numerators();
-    let mut page = pages::page();
     let mut now = desk;
     let mut long = began;
     let mut at = 0;
@@ -144,7 +151,7 @@ fn lines(desk: Desk, began: bool, space: &[u8], count: usize) -> Left
             &mut distances,
             &mut parents,
             &mut numerators,
-            &mut page,
+            page,
         );
         let next = turned.desk;
         now = next;
@@ -168,15 +175,14 @@ fn lines(desk: Desk, began: bool, space: &[u8], count: usize) -> Left
 }
 
 // The last line, which has no end: all that is left of the buffer.
-fn last_line(desk: Desk, long: bool, space: &[u8], count: usize)
+fn last_line(desk: Desk, long: bool, space: &[u8], count: usize, page: &mut [u8])
     requires { ⌜ Held desk ⌝ }
-    requires { ⌜ count ≤ length (now space) ⌝ }
+    requires { ⌜ (count ≤ length (now space)) × (pairsPage ≤ length (now page)) ⌝ }
 {
     let mut numbers = no_numbers();
     let mut distances = no_numbers();
     let mut parents = no_bytes();
     let mut numerators = no_numerators();
-    let mut page = pages::page();
     one(
         desk,
         long,
@@ -187,7 +193,7 @@ fn last_line(desk: Desk, long: bool, space: &[u8], count: usize)
         &mut distances,
         &mut parents,
         &mut numerators,
-        &mut page,
+        page,
     );
 }
 
@@ -214,6 +220,7 @@ fn kept(count: usize, long: bool) -> Rest
 fn main() {
     let mut desk = desk::empty();
     let mut space = room();
+    let mut page = page();
     let mut count = 0;
     let mut long = false;
     let mut reads = 0u64;
@@ -221,7 +228,7 @@ fn main() {
         reads += 1;
         match streams::take_more(&mut space, count) {
             Reading::On(next) => {
-                let left = lines(desk, long, &space, next);
+                let left = lines(desk, long, &space, next, &mut page);
                 if !left.written {
                     return;
                 }
@@ -234,7 +241,7 @@ fn main() {
             }
             Reading::Over(taken) => {
                 if taken.whole {
-                    last_line(desk, long, &space, count);
+                    last_line(desk, long, &space, count, &mut page);
                 }
                 return;
             }

@@ -67,8 +67,8 @@ answered-requires-4 c κs = search needs
 enum-known-line-5 : tie.Need-enum-known-line-5
 enum-known-line-5 c = search needs
 
-report-lines-requires : tie.Need-report-lines-requires
-report-lines-requires c κs = search needs
+show-lines-requires : tie.Need-show-lines-requires
+show-lines-requires c κs = search needs
 
 returns : tie.Need-returns
 returns c = told-as _ _ _ _ _ _ _ _ _ (c .enum-told .given .1) (desk-left _ silent _ _ _ (c .before .before .before .before .before .pre .0) refl (nothing-said _))
@@ -107,7 +107,7 @@ same-length-6 : tie.Need-same-length-6
 same-length-6 c = search needs
 
 returns-7 : tie.Need-returns-7
-returns-7 c = told-as _ _ _ _ _ _ _ _ _ (c .before .before .before .before .before .line5 .given .1) (desk-left _ (shows (c .before .before .before .before .before .line5 .given .0 .0)) _ _ _ (c .before .before .before .before .before .before .before .before .before .before .pre .0) refl (c .before .before .report-lines .ensures))
+returns-7 c = told-as _ _ _ _ _ _ _ _ _ (c .before .before .before .before .before .line5 .given .1) (desk-left _ (shows (c .before .before .before .before .before .line5 .given .0 .0 .view) (c .before .before .before .before .before .line5 .given .0 .0 .bench)) _ _ _ (c .before .before .before .before .before .before .before .before .before .before .pre .0) refl (c .before .before .show-lines .ensures))
 
 pub respond-spec : {M : Type 1} → statement M
 respond-spec =
@@ -133,7 +133,7 @@ respond-spec =
     withdraw-requires
     answered-requires-4
     enum-known-line-5
-    report-lines-requires
+    show-lines-requires
     returns
     same-length
     returns-2

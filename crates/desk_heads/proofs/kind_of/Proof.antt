@@ -1,6 +1,6 @@
--- The words one by one.
+-- The words one by one: what each test said stands three steps further back than what the next one said.
 use mathlib.Core.Path.{sym, _∙_}
-use Rattle.desk_heads.proofs.Heading.{kind-post, kind-propose, kind-correct, kind-withdraw, kind-report, kind-wrong}
+use Rattle.desk_heads.proofs.Heading.{kind-post, kind-propose, kind-correct, kind-withdraw, kind-report, kind-pairs, kind-wrong}
 use borrow.Author.Needs.{needs}
 use Rattle.desk_heads.proofs.kind_of.Statement.{statement}
 use Rattle.desk_heads.proofs.kind_of.Tie as tie
@@ -50,8 +50,17 @@ same-requires-5 c κs = search needs
 returns-5 : tie.Need-returns-5
 returns-5 c = kind-report _ (sym (c .before .before .before .before .before .before .before .before .before .before .before .before .before .same .ensures) ∙ c .before .before .before .before .before .before .before .before .before .before .before .before .if1 .left) (sym (c .before .before .before .before .before .before .before .before .before .before .same2 .ensures) ∙ c .before .before .before .before .before .before .before .before .before .if2 .left) (sym (c .before .before .before .before .before .before .before .same3 .ensures) ∙ c .before .before .before .before .before .before .if3 .left) (sym (c .before .before .before .before .same4 .ensures) ∙ c .before .before .before .if4 .left) (sym (c .before .same5 .ensures) ∙ c .if5 .taken)
 
+slice-aggregate-same-6 : tie.Need-slice-aggregate-same-6
+slice-aggregate-same-6 c = search needs
+
+same-requires-6 : tie.Need-same-requires-6
+same-requires-6 c κs = search needs
+
 returns-6 : tie.Need-returns-6
-returns-6 c = kind-wrong _ (sym (c .before .before .before .before .before .before .before .before .before .before .before .before .before .same .ensures) ∙ c .before .before .before .before .before .before .before .before .before .before .before .before .if1 .left) (sym (c .before .before .before .before .before .before .before .before .before .before .same2 .ensures) ∙ c .before .before .before .before .before .before .before .before .before .if2 .left) (sym (c .before .before .before .before .before .before .before .same3 .ensures) ∙ c .before .before .before .before .before .before .if3 .left) (sym (c .before .before .before .before .same4 .ensures) ∙ c .before .before .before .if4 .left) (sym (c .before .same5 .ensures) ∙ c .if5 .left)
+returns-6 c = kind-pairs _ (sym (c .before .before .before .before .before .before .before .before .before .before .before .before .before .before .before .before .same .ensures) ∙ c .before .before .before .before .before .before .before .before .before .before .before .before .before .before .before .if1 .left) (sym (c .before .before .before .before .before .before .before .before .before .before .before .before .before .same2 .ensures) ∙ c .before .before .before .before .before .before .before .before .before .before .before .before .if2 .left) (sym (c .before .before .before .before .before .before .before .before .before .before .same3 .ensures) ∙ c .before .before .before .before .before .before .before .before .before .if3 .left) (sym (c .before .before .before .before .before .before .before .same4 .ensures) ∙ c .before .before .before .before .before .before .if4 .left) (sym (c .before .before .before .before .same5 .ensures) ∙ c .before .before .before .if5 .left) (sym (c .before .same6 .ensures) ∙ c .if6 .taken)
+
+returns-7 : tie.Need-returns-7
+returns-7 c = kind-wrong _ (sym (c .before .before .before .before .before .before .before .before .before .before .before .before .before .before .before .before .same .ensures) ∙ c .before .before .before .before .before .before .before .before .before .before .before .before .before .before .before .if1 .left) (sym (c .before .before .before .before .before .before .before .before .before .before .before .before .before .same2 .ensures) ∙ c .before .before .before .before .before .before .before .before .before .before .before .before .if2 .left) (sym (c .before .before .before .before .before .before .before .before .before .before .same3 .ensures) ∙ c .before .before .before .before .before .before .before .before .before .if3 .left) (sym (c .before .before .before .before .before .before .before .same4 .ensures) ∙ c .before .before .before .before .before .before .if4 .left) (sym (c .before .before .before .before .same5 .ensures) ∙ c .before .before .before .if5 .left) (sym (c .before .same6 .ensures) ∙ c .if6 .left)
 
 pub kind-of-spec : {M : Type 1} → statement M
 kind-of-spec =
@@ -72,4 +81,7 @@ kind-of-spec =
     slice-aggregate-same-5
     same-requires-5
     returns-5
-    returns-6)
+    slice-aggregate-same-6
+    same-requires-6
+    returns-6
+    returns-7)

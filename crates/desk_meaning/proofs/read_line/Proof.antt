@@ -40,11 +40,11 @@ enum-told-6 c = search needs
 withdraw-line-requires : tie.Need-withdraw-line-requires
 withdraw-line-requires c κs = search needs
 
-enum-told-7 : tie.Need-enum-told-7
-enum-told-7 c = search needs
+enum-known-kind : tie.Need-enum-known-kind
+enum-known-kind c = search needs
 
-report-line-requires : tie.Need-report-line-requires
-report-line-requires c κs = search needs
+show-line-requires : tie.Need-show-line-requires
+show-line-requires c κs = search needs
 
 returns : tie.Need-returns
 returns c = of-kind _ _ kinds.Silent _ _ _ _ (c .before .before .head-of .ensures) (c .enum-told .given .1) silent-line
@@ -77,7 +77,7 @@ returns-6 : tie.Need-returns-6
 returns-6 c = of-kind _ _ kinds.Withdraw _ _ _ _ (c .before .before .before .head-of .ensures) (c .before .enum-told6 .given .1) (c .withdraw-line .ensures _ _ _)
 
 returns-7 : tie.Need-returns-7
-returns-7 c = of-kind _ _ kinds.Report _ _ _ _ (c .before .before .before .head-of .ensures) (c .before .enum-told7 .given .1) (c .report-line .ensures _ _ _)
+returns-7 c = of-kind _ _ (kinds.Show _) _ _ _ _ (c .before .before .before .before .head-of .ensures) (c .before .before .kind .given .1) (c .show-line .ensures _ _ _)
 
 pub read-line-spec : {M : Type 1} → statement M
 read-line-spec =
@@ -94,8 +94,8 @@ read-line-spec =
     correct-line-requires
     enum-told-6
     withdraw-line-requires
-    enum-told-7
-    report-line-requires
+    enum-known-kind
+    show-line-requires
     returns
     returns-2
     same-length

@@ -1,6 +1,5 @@
 -- Its tables have the room that a line needs.
 use native.Mathlib.Omega.{arith}
-use Rattle.two_benches.proofs.PageSize.{page-size}
 use borrow.Author.Needs.{needs}
 use Rattle.two_benches.proofs.last_line.Statement.{statement}
 use Rattle.two_benches.proofs.last_line.Tie as tie
@@ -17,9 +16,6 @@ no-bytes-requires c κs = search needs
 no-numerators-requires : tie.Need-no-numerators-requires
 no-numerators-requires c κs = search needs
 
-page-requires : tie.Need-page-requires
-page-requires c κs = search needs
-
 slice-aggregate-one : tie.Need-slice-aggregate-one
 slice-aggregate-one c = search needs
 
@@ -32,11 +28,11 @@ slice-aggregate-one-3 c = search needs
 slice-aggregate-one-4 : tie.Need-slice-aggregate-one-4
 slice-aggregate-one-4 c = search needs
 
-slice-aggregate-one-5 : tie.Need-slice-aggregate-one-5
-slice-aggregate-one-5 c = search needs
-
 one-requires : tie.Need-one-requires
-one-requires c κs = let p = c .before .before .before .before .before .before .before .before .before .before .before .pre in (p .0, (omega arith, p .1, omega (arith, c .before .before .before .before .before .before .before .before .before .no-numbers .ensures), omega (arith, c .before .before .before .before .before .before .before .before .no-numbers2 .ensures), omega (arith, c .before .before .before .before .before .before .before .no-bytes .ensures), omega (arith, c .before .before .before .before .before .before .no-numerators .ensures), (let n = page-size (c .before .before .before .before .before .page .ensures) in omega (arith, n))))
+one-requires c κs = let p = c .before .before .before .before .before .before .before .before .before .before .before .pre in (p .0, (omega arith, p .1 .0, omega (arith, c .before .before .before .before .before .before .before .before .no-numbers .ensures), omega (arith, c .before .before .before .before .before .before .before .no-numbers2 .ensures), omega (arith, c .before .before .before .before .before .before .no-bytes .ensures), omega (arith, c .before .before .before .before .before .no-numerators .ensures), p .1 .1))
+
+same-length : tie.Need-same-length
+same-length c = search needs
 
 returns : tie.Need-returns
 returns c = search needs
@@ -49,11 +45,10 @@ last-line-spec =
     no-numbers-requires-2
     no-bytes-requires
     no-numerators-requires
-    page-requires
     slice-aggregate-one
     slice-aggregate-one-2
     slice-aggregate-one-3
     slice-aggregate-one-4
-    slice-aggregate-one-5
     one-requires
+    same-length
     returns)

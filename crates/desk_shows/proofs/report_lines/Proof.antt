@@ -1,9 +1,9 @@
 -- The report is the desk's, and its text is that of the table.
 use Rattle.desk_report.proofs.Reporting.{few-edges}
-use Rattle.desk_answers.proofs.Telling.{front-size, report-shown}
+use Rattle.desk_shows.proofs.Showing.{front-size, report-shown}
 use borrow.Author.Needs.{needs}
-use Rattle.desk_answers.proofs.report_lines.Statement.{statement}
-use Rattle.desk_answers.proofs.report_lines.Tie as tie
+use Rattle.desk_shows.proofs.report_lines.Statement.{statement}
+use Rattle.desk_shows.proofs.report_lines.Tie as tie
 
 edge-zeros-requires : tie.Need-edge-zeros-requires
 edge-zeros-requires c κs = search needs
