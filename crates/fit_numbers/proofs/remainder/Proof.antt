@@ -70,7 +70,7 @@ path-requires : tie.Need-path-requires
 path-requires c κs =
     let at = c .before .before in
     let p = at .before .before .before .pre in
-    (p .0 .lengthened, (p .1 .0, p .1 .1))
+    (p .0 .lengthened, (p .1 .0, (omega (arith, rising at), strain at)))
 
 sub-result : tie.Need-sub-result
 sub-result c =
