@@ -27,7 +27,7 @@ static ucontext_t here, there;
 static void (*entry)(void);
 
 static uint8_t sheet[VAMUTHEXA_MAX_NAMED_SHEET], long_sheet[VAMUTHEXA_MAX_LONG_SHEET], names[6 + 11 * N], name_bytes[10 * N], parents[K], parents_read[K];
-static uint8_t matrix[TEXT], tree[TEXT], page[VAMUTHEXA_TREE_PAGE];
+static uint8_t matrix[TEXT], tree[TEXT], page[VAMUTHEXA_PATHS_PAGE];
 static uint16_t distances[PAIRS];
 static int64_t thousandths[K], numerators[K], rounded[K];
 static uint32_t denominators[K], number;
@@ -53,6 +53,8 @@ static void read_matrix(void) {
     number = phylip_read(matrix, matrix_length, distances, PAIRS, name_bytes, sizeof name_bytes);
 }
 static void print_tree(void) { printed = newick_print(sheet, VAMUTHEXA_MAX_NAMED_SHEET, page, VAMUTHEXA_TREE_PAGE); }
+static void print_paths(void) { printed = paths_print(sheet, VAMUTHEXA_MAX_SHEET, page, VAMUTHEXA_PATHS_PAGE); }
+static void print_named_paths(void) { printed = paths_print(sheet, VAMUTHEXA_MAX_NAMED_SHEET, page, VAMUTHEXA_PATHS_PAGE); }
 static void write_tree(void) {
     number = newick_write(names, sizeof names, parents, K, thousandths, K, tree, TEXT, &tree_length);
 }
@@ -70,6 +72,7 @@ static const struct {
     {"sheet_verdict", verdict, 0},     {"sheet_verdict0", verdict0, 0},  {"sheet_print", print, 1},
     {"sheet_print0", print0, 1},       {"unfitted_print", unfitted, 1},  {"resolved_lengths", resolved, 0},
     {"phylip_write", write_matrix, 0}, {"phylip_read", read_matrix, 0},  {"newick_print", print_tree, 1},
+    {"paths_print", print_paths, 1},   {"paths_print, with names", print_named_paths, 1},
     {"newick_write", write_tree, 0},   {"newick_read", read_tree, 0},
 };
 enum { ENTRIES = sizeof entries / sizeof entries[0] };
@@ -162,9 +165,9 @@ int main(void) {
     fine &= sheet_print(NULL, 0, page, VAMUTHEXA_PAGE) == 17 && memcmp(page, "refused 2 byte 0\n", 17) == 0;
     fine &= sheet_print0(NULL, 0, page, VAMUTHEXA_PAGE) == 17 && unfitted_print(NULL, 0, page, VAMUTHEXA_PAGE) == 17;
     fine &= long_print(NULL, 0, page, VAMUTHEXA_LONG_PAGE) == 17 && long_print0(NULL, 0, page, VAMUTHEXA_LONG_PAGE) == 17;
-    fine &= newick_print(NULL, 0, page, VAMUTHEXA_TREE_PAGE) == 17;
+    fine &= newick_print(NULL, 0, page, VAMUTHEXA_TREE_PAGE) == 17 && paths_print(NULL, 0, page, VAMUTHEXA_PATHS_PAGE) == 17;
     fine &= sheet_print(NULL, 0, NULL, 0) == 0 && sheet_print0(NULL, 0, NULL, 0) == 0;
-    fine &= unfitted_print(NULL, 0, NULL, 0) == 0 && newick_print(NULL, 0, NULL, 0) == 0;
+    fine &= unfitted_print(NULL, 0, NULL, 0) == 0 && newick_print(NULL, 0, NULL, 0) == 0 && paths_print(NULL, 0, NULL, 0) == 0;
     fine &= long_print(NULL, 0, NULL, 0) == 0 && long_print0(NULL, 0, NULL, 0) == 0;
     fine &= resolved_lengths(0, NULL, 0, NULL, 0, NULL, 0, NULL, 0, NULL, 0) == VAMUTHEXA_STRAINS;
     fine &= resolved_lengths(N, distances, PAIRS, parents, K, NULL, 0, NULL, 0, NULL, 0) == VAMUTHEXA_BUFFER;

@@ -148,6 +148,15 @@ enum { VAMUTHEXA_TREE_PAGE = VAMUTHEXA_TEXT_SIZE + 1 };
  * libnewick_pages.a. */
 size_t newick_print(const uint8_t *sheet, size_t length, uint8_t *text, size_t size);
 
+/* The bytes of a page for the print of paths: every print of them fits one. */
+enum { VAMUTHEXA_PATHS_PAGE = 262144 };
+
+/* Writes to the front of `text` what the program `paths` prints of a sheet, with names or without: for every two strains
+ * their distance, their path and the remainder; or the line with the number and the place of its refusal. Returns how
+ * many bytes were written, at most VAMUTHEXA_PATHS_PAGE, and leaves all behind them as it was. Where `size` is below
+ * VAMUTHEXA_PATHS_PAGE, it writes nothing and returns 0. The two buffers may not overlap. Link with libpaths_pages.a. */
+size_t paths_print(const uint8_t *sheet, size_t length, uint8_t *text, size_t size);
+
 /* Writes a tree in Newick form to the front of `text`, which must have exactly VAMUTHEXA_TEXT_SIZE bytes; no fit is
  * asked for. `names` is a names record, its head included, and says how many strains there are; a tree of K edges has
  * K parents and K lengths in thousandths. No zero follows the text and no byte behind it changes. The number is 2 to

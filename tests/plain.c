@@ -423,8 +423,8 @@ uint32_t plain_named_line(const uint8_t *bytes, size_t length, plain_names_of *n
     struct sheet s = {0};
     struct place place = {0};
     int64_t sums[MAX_V];
-    uint32_t number = read_form(4, bytes, length, &s, &place);
-    if (number == 0) {
+    uint32_t number = read_form(names_by == NULL ? 3 : 4, bytes, length, &s, &place);
+    if (number == 0 && names_by != NULL) {
         number = names_by(s.names, s.name_bytes);
     }
     if (number == 0) {
@@ -436,6 +436,7 @@ uint32_t plain_named_line(const uint8_t *bytes, size_t length, plain_names_of *n
     out->n = s.n;
     out->edges = s.k;
     out->denominator = s.d;
+    out->distances = s.distances;
     out->names = s.names;
     out->name_bytes = s.name_bytes;
     return write_line(number, &place, line);

@@ -34,11 +34,12 @@ uint32_t plain_unfitted_line(const uint8_t *sheet, size_t length, char line[PLAI
 int64_t plain_count_names(const uint8_t *body, size_t size);
 
 /* One pass over a sheet with names, which has a record more: the number and the line, and of an accepted one what it holds.
- * The names are judged by `names_by`, which gives 28 or 0. */
+ * The names are judged by `names_by`, which gives 28 or 0; without it the sheet has three records and no names. The distances
+ * are those of the sheet, two bytes each, in rows. */
 enum { PLAIN_VERTICES = 126 };
 struct plain_named {
     uint32_t n, edges, denominator;
-    const uint8_t *names;
+    const uint8_t *distances, *names;
     size_t name_bytes;
     uint8_t parents[PLAIN_VERTICES];
     int64_t numerators[PLAIN_VERTICES];

@@ -225,8 +225,7 @@ uint32_t plain_newick_write(const uint8_t *record, size_t record_length, const u
     return 0;
 }
 
-/* The whole number nearest 1000·n/D, a tie to the even one, mirrored below zero. */
-static int64_t nearest(int64_t n, uint32_t denominator) {
+int64_t plain_thousandths(int64_t n, uint32_t denominator) {
     uint64_t size = 1000 * (n < 0 ? -(uint64_t)n : (uint64_t)n), m = size / denominator, twice = 2 * (size % denominator);
     m += twice > denominator || (twice == denominator && m % 2 == 1);
     return n < 0 ? -(int64_t)m : (int64_t)m;
@@ -234,7 +233,7 @@ static int64_t nearest(int64_t n, uint32_t denominator) {
 
 static struct names of_sheet;
 
-static uint32_t sheet_names(const uint8_t *body, size_t size) {
+uint32_t plain_names(const uint8_t *body, size_t size) {
     return take_names(body, size, &of_sheet);
 }
 
@@ -244,14 +243,14 @@ size_t plain_newick_print(const uint8_t *sheet, size_t length, uint8_t *text, si
     }
     struct plain_named held;
     char line[PLAIN_LINE];
-    if (plain_named_line(sheet, length, sheet_names, &held, line) != 0) {
+    if (plain_named_line(sheet, length, plain_names, &held, line) != 0) {
         size_t count = strlen(line);
         memcpy(text, line, count);
         return count;
     }
     int64_t rounded[MAX_V];
     for (uint32_t v = 0; v < held.edges; v++) {
-        rounded[v] = nearest(held.numerators[v], held.denominator);
+        rounded[v] = plain_thousandths(held.numerators[v], held.denominator);
     }
     size_t end = put_tree(text, &of_sheet, held.parents, held.edges, rounded);
     text[end] = '\n';

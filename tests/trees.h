@@ -7,7 +7,7 @@
 
 static uint64_t state = 88172645463325252u;
 
-static uint32_t chance(uint32_t below) {
+static inline uint32_t chance(uint32_t below) {
     state ^= state << 13;
     state ^= state >> 7;
     state ^= state << 17;
@@ -15,7 +15,7 @@ static uint32_t chance(uint32_t below) {
 }
 
 /* A resolved tree by joining two of the nodes that are left: the first two, the last two, or any. */
-static void grow(uint8_t parents[], uint32_t n, int shape) {
+static inline void grow(uint8_t parents[], uint32_t n, int shape) {
     uint32_t nodes[64] = {0}, left = n, next = n;
     for (uint32_t i = 0; i < n; i++) {
         nodes[i] = i;

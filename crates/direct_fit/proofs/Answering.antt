@@ -1,5 +1,5 @@
 -- A matrix and a resolved tree that pass: the split sums are in range, so the lengths by them are the tree's own, these are a fit
--- (`direct`), and their rounding can be summed over (`ready-rounded`, `r-within`).
+-- (`direct`), and their rounding can be summed over (`rounded-summable`, `r-within`).
 use mathlib.Core.Path.{_≡_, sym, _∙_, ap, ap₂, subst}
 use mathlib.Core.Bool.{Bool, cond}
 use mathlib.Core.List.{List, []}
@@ -37,7 +37,7 @@ use Rattle.fit_theory.specs.Quantities.{partsIn}
 use Rattle.fit_theory.proofs.Steps.{all-parted}
 use Rattle.fit_theory.proofs.Complete.{complete-parts, complete-posted}
 use Rattle.paths.specs.Standing.{Standing}
-use Rattle.pairs.specs.Ready.{Ready}
+use Rattle.fit_numbers.specs.Terms.{Summable}
 use Rattle.pairs.proofs.Lent.{few-edges}
 use Rattle.tables.specs.Answers.{SplitTable}
 use Rattle.direct_theory.specs.Children.{Resolved}
@@ -134,16 +134,19 @@ module _ (N : ℕ) (ds ps : List ℕ) (shaped : Shaped N ds ps) (passed : direct
           ∙ ap (λ c. cond c (nearest (lowestBottom (lengthBy N K par (entryOf sums) v)) (lowestTop (lengthBy N K par (entryOf sums) v))) (pos 0)) (lt-ltb v K h)
           ∙ ap₂ nearest (own v h .1) (own v h .0)
 
-      pub ready-rounded : (cs : List ℕ) → Standing N K ps cs → Ready N K 1000 ds ps cs ms
-      ready-rounded cs s = record {
-        standing = s;
+      pub rounded-summable : Summable N K 1000 ds ps ms
+      rounded-summable = record {
+        lengthened = record {
+          room = omega arith;
+          allowed = ok;
+          small = record {
+            room = omega (arith, few-edges ok, ap length (w .rounded) ∙ length-table maxEdges _);
+            near = λ v h. omega (arith, ap natAbs (entry-is v h), rounded-small N K par ok res d range v h);
+          };
+        };
         most = omega arith;
         room = omega (arith, shaped .matrix .whole);
         near = known-near (shaped .matrix);
-        small = record {
-          room = omega (arith, few-edges ok, ap length (w .rounded) ∙ length-table maxEdges _);
-          near = λ v h. omega (arith, ap natAbs (entry-is v h), rounded-small N K par ok res d range v h);
-        };
       }
 
       pub r-same : sumR (pairs N) K (partsIn ds ps) d (entryOf ms) ≡ squareOf N ds ps

@@ -50,7 +50,7 @@ pub fn resolve(
         numerators,
         denominators,
     );
-    let squares = fit_numbers::sum_squares(strains, edges, distances, parents, &masks, &worked);
+    let squares = fit_numbers::sum_squares(strains, edges, distances, parents, &worked);
     tables::copy_out(edges, &worked, rounded);
     DirectFit {
         verdict: Verdict::Accepted,

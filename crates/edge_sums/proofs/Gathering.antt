@@ -42,7 +42,7 @@ use Rattle.meeting.specs.Meeting.{farthestWay, largestRemainder, pairMass, Carr
 use Rattle.fit_theory.specs.Quantities.{partsIn}
 use Rattle.fit_theory.proofs.Measured.{measured-path, missing-remainder}
 use Rattle.fit_theory.proofs.Ranges.{remainder-range}
-use Rattle.paths.proofs.Climb.{few-edges}
+use Rattle.paths.proofs.Bounds.{few-edges}
 use Rattle.pairs.proofs.Bounded.{in-bounds}
 use Rattle.meeting.proofs.Putting.{under-none, mass-none}
 use Rattle.matrix.proofs.Places.{pair-place-up, pair-place-sym}

@@ -1,49 +1,37 @@
--- Sums of squares over the pairs: H and R. The idea: no square is negative, so a running sum is never above the whole, and H is
--- small, while R fits by what is asked of it.
-use mathlib.Core.Path.{_≡_, sym, ap, ap₂, _∙_}
+-- Sums of squares over the pairs: R and H. The idea: no square is negative, so a running sum is never above the whole, which fits by what
+-- is asked of it; and H is such a sum too, since with no distances and 1 for each edge a remainder is the number of edges, taken off 0.
+use mathlib.Core.Path.{_≡_, sym, ap, ap₂, _∙_, subst}
 use mathlib.Core.Bool.{Bool}
-use mathlib.Core.Logic.{inl}
-use Prim.Native.Nat.{ℕ, suc, _+_, _*_, _≤_, _<_, _^_}
-use native.Mathlib.Nat.{mul-le-mul}
+use mathlib.Core.List.{List, [], _∷_}
+use Prim.Native.Nat.{ℕ, suc, _≤_, _<_, _^_}
 use native.Mathlib.Omega.{arith}
-use lib.IntN.{ℤ, pos, natAbs, _+ℤ_, _*ℤ_}
+use lib.IntN.{ℤ, pos, natAbs, _+ℤ_, _-ℤ_, _*ℤ_}
+use lib.ListN.{length}
 use mir.Syntax.{w64}
 use mir.Val.{SFits, toZ, ofZ}
-use Rattle.exact.specs.Sum.{sweep, pairs}
-use Rattle.exact.specs.LeastSquares.{sq, hops}
+use Rattle.exact.specs.Sum.{sweep, pairs, ind}
+use Rattle.exact.specs.LeastSquares.{sq, path, hops, sumX, sumH}
+use Rattle.exact.specs.Table.{table, entryOf}
+use Rattle.exact.proofs.Fill.{length-table, getD-table}
 use Rattle.exact.proofs.Order.{nn-sq, ≤-trans}
+use Rattle.exact.proofs.Quote.{by-ring, quote}
+use Rattle.exact.proofs.Ring.{*ℤ-oneʳ}
 use Rattle.exact.proofs.Sign.{fits-abs, back}
+use Rattle.exact.proofs.Sum.{sum-cong, pairs-sums, S-cong, S-sq}
 use Rattle.exact.proofs.Sweep.{sweep-step, sweep-nn, sweep-le, term-le}
-use Rattle.matrix.specs.Limits.{maxStrains, maxPairs}
+use Rattle.matrix.specs.Limits.{maxStrains}
 use Rattle.tree_theory.specs.Limits.{maxEdges}
 use Rattle.pairs.specs.declared.Pair.{Pair}
 use Rattle.pairs.proofs.Following.{Follows}
-use Rattle.fit_theory.proofs.Ranges.{hops-sweep}
+use Rattle.fit_theory.proofs.Demand3.{h-high}
 use Rattle.exact.specs.Fits.{Fits63}
-use Rattle.pairs.proofs.Turns.{PairAt}
+use Rattle.fit_numbers.specs.Terms.{Summable}
 use Rattle.fit_numbers.proofs.Back.{between}
 
 abbrev pub squareOf : (ℕ × ℕ → ℤ) → ℕ × ℕ → ℤ
 squareOf r p = sq (r p)
 
--- ---- H: unsigned numbers
-module _ (K : ℕ) (parts : ℕ → ℕ × ℕ → Bool) where
-  -- one square more
-  pub hops-next : (i j s : ℕ) {r : Pair} → pos s ≡ sweep (squareOf (hops K parts)) j i
-      → (h : ℕ) → pos h ≡ hops K parts (i, j) → Follows i j r → pos (s + h * h) ≡ sweep (squareOf (hops K parts)) (r .j) (r .i)
-  hops-next i j s e h q k = ap₂ _+ℤ_ e (ap sq q) ∙ sym (k .adds (squareOf (hops K parts)))
-
-  -- a square for each pair, and one more
-  pub hops-fit : (n : ℕ) → n ≤ maxStrains → K ≤ maxEdges → (i j s : ℕ) → PairAt n i j → j < n
-      → pos s ≡ sweep (squareOf (hops K parts)) j i → (h : ℕ) → h ≤ maxEdges → s + h * h ≤ maxPairs * (maxEdges * maxEdges) + maxEdges * maxEdges
-  hops-fit n few some i j s at l e h g = omega (
-    arith,
-    ap natAbs e,
-    hops-sweep K parts some n few j i (at .within) (omega (arith, at .rising)) (inl l),
-    mul-le-mul {n₁ = h} {m₁ = h} {n₂ = maxEdges} {m₂ = maxEdges} g g,
-  )
-
--- ---- R: signed numbers, whose whole sum fits
+-- ---- a running sum, whose whole fits
 module _ (n : ℕ) (r : ℕ × ℕ → ℤ) (fits : Fits63 (pairs n (squareOf r))) (i j : ℕ) (rising : i < j) (strain : j < n) where
   square-small : natAbs (squareOf r (i, j)) < 2 ^ 63
   square-small = omega (
@@ -80,3 +68,31 @@ module _ (n : ℕ) (r : ℕ × ℕ → ℤ) (fits : Fits63 (pairs n (squareOf r)
       pub squares-next : (p : Pair) → Follows i j p
           → toZ w64 (ofZ w64 (toZ w64 s +ℤ toZ w64 (ofZ w64 (off *ℤ off)))) ≡ sweep (squareOf r) (p .j) (p .i)
       squares-next p k = back (toZ w64 s +ℤ toZ w64 (ofZ w64 (off *ℤ off))) near ∙ more ∙ sweep-step (squareOf r) j i ∙ sym (k .adds (squareOf r))
+
+-- ---- H, by a table of ones
+module _ (K : ℕ) (k : K ≤ maxEdges) (xs : List ℤ) (e : xs ≡ table maxEdges (λ _. pos 1)) where
+  one : (v : ℕ) → v < K → entryOf xs v ≡ pos 1
+  one v h = ap (λ (y : List ℤ). entryOf y v) e ∙ getD-table maxEdges (λ _. pos 1) (pos 0) v (omega arith)
+
+  module _ (parts : ℕ → ℕ × ℕ → Bool) where
+    path-one : (p : ℕ × ℕ) → path K parts (entryOf xs) p ≡ hops K parts p
+    unfolding path hops
+    path-one p = sum-cong K (λ v h. ap (λ (y : ℤ). ind (parts v p) *ℤ y) (one v h) ∙ *ℤ-oneʳ (ind (parts v p)))
+
+    pub squares-ones : (d : ℕ × ℕ → ℤ) (N : ℕ) → sumX (pairs N) K parts d (pos 0) (entryOf xs) ≡ sumH (pairs N) K parts
+    squares-ones d N = S-cong (pairs-sums N) (λ p. ap (λ (y : ℤ). sq (pos 0 *ℤ d p -ℤ y)) (path-one p) ∙ by-ring (d p ∷ hops K parts p ∷ []) (search quote depth 20) tt)
+
+    pub ones-fit : (d : ℕ × ℕ → ℤ) (N : ℕ) → N ≤ maxStrains → Fits63 (sumX (pairs N) K parts d (pos 0) (entryOf xs))
+    ones-fit d N small = subst Fits63 (sym (squares-ones d N)) (record { low = S-sq (pairs-sums N) (hops K parts); high = ≤-trans (h-high K k parts N small) (record { le = tt }) })
+
+  pub ones-summable : {N D : ℕ} {ds ps : List ℕ} {ns : List ℤ} → Summable N K D ds ps ns → Summable N K 0 ds ps xs
+  ones-summable w = record {
+    lengthened = record {
+      room = w .lengthened .room;
+      allowed = w .lengthened .allowed;
+      small = record { room = omega (arith, ap length e, length-table maxEdges (λ _. pos 1)); near = λ v h. omega (arith, ap natAbs (one v h)) };
+    };
+    most = omega arith;
+    room = w .room;
+    near = w .near;
+  }

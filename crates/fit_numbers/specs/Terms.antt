@@ -1,20 +1,21 @@
--- What one pair gives to the sums of a fit; a missing pair gives nothing.
-use mathlib.Core.Path.{_≡_}
+-- What the sums of a fit need of the tables that they are lent, and what one pair gives to F.
 use mathlib.Core.List.{List}
 use Prim.Native.Nat.{ℕ, _≤_}
-use lib.IntN.{ℤ, pos, _*ℤ_}
-use Rattle.exact.specs.LeastSquares.{hops}
-use Rattle.matrix.specs.Place.{distance}
-use Rattle.tree_theory.specs.Limits.{maxEdges}
-use Rattle.fit_theory.specs.Quantities.{partsIn}
+use lib.IntN.{ℤ, _*ℤ_}
+use lib.ListN.{length, getD}
+use Rattle.matrix.specs.Limits.{maxDistance}
+use Rattle.matrix.specs.Place.{pairCount, known, distance}
+use Rattle.lengths.specs.Limits.{maxDenominator}
+use Rattle.inner_paths.specs.Between.{Lengthened}
 use Rattle.pairs.specs.Ready.{remainderAt}
 
--- to F
+-- an allowed tree with an entry for each edge, a denominator and distances in their ranges; the tables may be longer than the counts say
+pub record Summable (N K D : ℕ) (ds ps : List ℕ) (ns : List ℤ) : Type 0 where
+  pub lengthened : Lengthened N K ps ns
+  pub most : D ≤ maxDenominator
+  pub room : pairCount N ≤ length ds
+  pub near : (k : ℕ) → known (getD ds k 0) ≤ maxDistance
+
+-- a missing pair gives nothing
 abbrev pub termOf : ℕ → ℕ → List ℕ → List ℕ → List ℤ → ℕ × ℕ → ℤ
 termOf K D ds ps ns p = distance ds p *ℤ remainderAt K D ds ps ns p
-
--- to R and H, before they are squared: what the path over thousandths is off, and how many edges it has
-pub record Strayed (K : ℕ) (ds ps : List ℕ) (ns : List ℤ) (p : ℕ × ℕ) (off : ℤ) (edges : ℕ) : Type 0 where
-  pub off-is : off ≡ remainderAt K 1000 ds ps ns p
-  pub edges-is : pos edges ≡ hops K (partsIn ds ps) p
-  pub few : edges ≤ maxEdges

@@ -1,21 +1,24 @@
 // The numbers of an accepted fit: the tree length, the rounded lengths, F, R and H.
+use inner_paths::SPOTS;
 use matrix::Matrix;
 use tree::Tree;
 ghost use mathlib.Core.Path.{_≡_};
 ghost use mathlib.Core.Bool.{cond};
-ghost use Prim.Native.Nat.{_≤_, _<_};
+ghost use Prim.Native.Nat.{_+_, _-_, _≤_, _<_};
 ghost use lib.Dec.{ltb};
 ghost use lib.IntN.{pos};
 ghost use Rattle.exact.specs.Sum.{sum, pairs};
 ghost use Rattle.exact.specs.Table.{table, entryOf};
 ghost use Rattle.exact.specs.Nearest.{nearest};
-ghost use Rattle.exact.specs.LeastSquares.{sumF, sumR, sumH};
+ghost use Rattle.exact.specs.LeastSquares.{sumF, sumX, sumR, sumH};
 ghost use Rattle.matrix.specs.Place.{distance};
 ghost use Rattle.tree_theory.specs.Limits.{maxEdges};
+ghost use Rattle.tree_theory.specs.Chain.{parentOf};
 ghost use Rattle.fit_theory.specs.Quantities.{partsIn};
-ghost use Rattle.pairs.specs.Ready.{Ready, InRange};
+ghost use Rattle.inner_paths.specs.Between.{Between};
+ghost use Rattle.pairs.specs.Ready.{InRange, remainderAt};
 ghost use Rattle.exact.specs.Fits.{Fits63};
-ghost use Rattle.fit_numbers.specs.Terms.{termOf, Strayed};
+ghost use Rattle.fit_numbers.specs.Terms.{Summable, termOf};
 
 // The numerator of the tree length: the sum of all numerators.
 pub fn total(edges: usize, numerators: &[i64]) -> i64
@@ -47,6 +50,31 @@ pub fn rounded(edges: usize, d: u32, numerators: &[i64]) -> [i64; Tree::MAX_EDGE
     lengths
 }
 
+// The remainder of a measured pair, by the paths between inner vertices over the entries x: d times its distance, less its
+// path; 0 for one that is missing.
+fn remainder(
+    n: usize,
+    edges: usize,
+    d: u32,
+    distances: &[u16],
+    parents: &[u8],
+    x: &[i64],
+    between: &[i64; SPOTS],
+    i: usize,
+    j: usize,
+) -> i64
+    requires { ⌜ Summable n edges d (now distances) (now parents) (now x) ⌝ }
+    requires { ⌜ Between edges (parentOf (now parents)) (entryOf (now x)) (edges - n + 1) (now between) ⌝ }
+    requires { ⌜ (i < j) × (j < n) ⌝ }
+    ensures { λ r. ⌜ r ≡ remainderAt edges d (now (distances .entry)) (now (parents .entry)) (now (x .entry)) (i, j) ⌝ }
+{
+    let observed = distances[matrix::place(i, j)];
+    if observed == Matrix::MISSING {
+        return 0;
+    }
+    d as i64 * observed as i64 - inner_paths::path(n, edges, parents, x, between, i, j)
+}
+
 // What a pair adds to F: its distance times its remainder; nothing where it is missing.
 fn product(
     n: usize,
@@ -54,13 +82,14 @@ fn product(
     d: u32,
     distances: &[u16],
     parents: &[u8],
-    masks: &[u64; Tree::MAX_VERTICES],
     numerators: &[i64],
+    between: &[i64; SPOTS],
     i: usize,
     j: usize,
 ) -> i64
-    requires { ⌜ Ready n edges d (now distances) (now parents) (now masks) (now numerators) ⌝ }
+    requires { ⌜ Summable n edges d (now distances) (now parents) (now numerators) ⌝ }
     requires { ⌜ InRange edges (now numerators) ⌝ }
+    requires { ⌜ Between edges (parentOf (now parents)) (entryOf (now numerators)) (edges - n + 1) (now between) ⌝ }
     requires { ⌜ (i < j) × (j < n) ⌝ }
     ensures { λ r. ⌜ r ≡ termOf edges d (now (distances .entry)) (now (parents .entry)) (now (numerators .entry)) (i, j) ⌝ }
 {
@@ -68,7 +97,7 @@ fn product(
     if far == Matrix::MISSING {
         return 0;
     }
-    far as i64 * pairs::remainder(n, edges, d, distances, parents, masks, numerators, i, j)
+    far as i64 * remainder(n, edges, d, distances, parents, numerators, between, i, j)
 }
 
 // F: the sum of d·r over the measured pairs. The sum travels modulo 2^64, and the total is exact where it fits.
@@ -78,19 +107,19 @@ pub fn sum_f(
     d: u32,
     distances: &[u16],
     parents: &[u8],
-    masks: &[u64; Tree::MAX_VERTICES],
     numerators: &[i64],
 ) -> i64
-    requires { ⌜ Ready n edges d (now distances) (now parents) (now masks) (now numerators) ⌝ }
+    requires { ⌜ Summable n edges d (now distances) (now parents) (now numerators) ⌝ }
     requires { ⌜ InRange edges (now numerators) ⌝ }
     requires { ⌜ Fits63 (sumF (pairs n) edges (partsIn (now distances) (now parents)) (distance (now distances)) (pos d) (entryOf (now numerators))) ⌝ }
     ensures { λ r. ⌜ r ≡ sumF (pairs n) edges (partsIn (now (distances .entry)) (now (parents .entry))) (distance (now (distances .entry))) (pos d) (entryOf (now (numerators .entry))) ⌝ }
 {
+    let between = inner_paths::inner_paths(n, edges, parents, numerators);
     let mut acc: u64 = 0;
     let mut i = 0;
     let mut j = 1;
     while j < n {
-        let term = product(n, edges, d, distances, parents, masks, numerators, i, j);
+        let term = product(n, edges, d, distances, parents, numerators, &between, i, j);
         acc = arithmetic::accumulate(acc, term);
         let next = pairs::next_pair(i, j);
         i = next.i;
@@ -99,36 +128,31 @@ pub fn sum_f(
     acc as i64
 }
 
-// How far the path of a measured pair over rounded lengths is off its distance, in thousandths, and how many edges it has; of
-// a missing pair nothing.
-struct Stray {
-    off: i64,
-    edges: u64,
+// X: the sum of the squares of the remainders over d and the entries x.
+fn sum_x(n: usize, edges: usize, d: u32, distances: &[u16], parents: &[u8], x: &[i64]) -> i64
+    requires { ⌜ Summable n edges d (now distances) (now parents) (now x) ⌝ }
+    requires { ⌜ Fits63 (sumX (pairs n) edges (partsIn (now distances) (now parents)) (distance (now distances)) (pos d) (entryOf (now x))) ⌝ }
+    ensures { λ r. ⌜ r ≡ sumX (pairs n) edges (partsIn (now (distances .entry)) (now (parents .entry))) (distance (now (distances .entry))) (pos d) (entryOf (now (x .entry))) ⌝ }
+{
+    let between = inner_paths::inner_paths(n, edges, parents, x);
+    let mut sum: i64 = 0;
+    let mut i = 0;
+    let mut j = 1;
+    while j < n {
+        let off = remainder(n, edges, d, distances, parents, x, &between, i, j);
+        sum += off * off;
+        let next = pairs::next_pair(i, j);
+        i = next.i;
+        j = next.j;
+    }
+    sum
 }
 
-fn strayed(
-    n: usize,
-    edges: usize,
-    distances: &[u16],
-    parents: &[u8],
-    masks: &[u64; Tree::MAX_VERTICES],
-    lengths: &[i64],
-    i: usize,
-    j: usize,
-) -> Stray
-    requires { ⌜ Ready n edges 1000 (now distances) (now parents) (now masks) (now lengths) ⌝ }
-    requires { ⌜ (i < j) × (j < n) ⌝ }
-    ensures { λ r. ⌜ Strayed edges (now (distances .entry)) (now (parents .entry)) (now (lengths .entry)) (i, j) (r .off) (r .edges) ⌝ }
+// 1 for each edge: the path over these is the number of edges on it.
+fn ones() -> [i64; Tree::MAX_EDGES]
+    ensures { λ r. ⌜ r ≡ table maxEdges (λ _. pos 1) ⌝ }
 {
-    let observed = distances[matrix::place(i, j)];
-    if observed == Matrix::MISSING {
-        return Stray { off: 0, edges: 0 };
-    }
-    let walked = paths::walked(n, edges, parents, masks, lengths, i, j);
-    Stray {
-        off: 1000 * observed as i64 - walked.sum,
-        edges: walked.edges,
-    }
+    [1; Tree::MAX_EDGES]
 }
 
 // The two sums of squares over the measured pairs. R: of 1000·d less the path over the rounded lengths. H: of the
@@ -138,32 +162,22 @@ pub struct SquareSums {
     pub h: i64,
 }
 
-// R and H in one loop, since the climbs of a pair pass the edges of both.
+// R is X over thousandths, and H is X over ones with no distances.
 pub fn sum_squares(
     n: usize,
     edges: usize,
     distances: &[u16],
     parents: &[u8],
-    masks: &[u64; Tree::MAX_VERTICES],
     lengths: &[i64],
 ) -> SquareSums
-    requires { ⌜ Ready n edges 1000 (now distances) (now parents) (now masks) (now lengths) ⌝ }
+    requires { ⌜ Summable n edges 1000 (now distances) (now parents) (now lengths) ⌝ }
     requires { ⌜ Fits63 (sumR (pairs n) edges (partsIn (now distances) (now parents)) (distance (now distances)) (entryOf (now lengths))) ⌝ }
     ensures { λ s. ⌜ s .r ≡ sumR (pairs n) edges (partsIn (now (distances .entry)) (now (parents .entry))) (distance (now (distances .entry))) (entryOf (now (lengths .entry))) ⌝ }
     ensures { λ s. ⌜ s .h ≡ sumH (pairs n) edges (partsIn (now (distances .entry)) (now (parents .entry))) ⌝ }
 {
-    let mut r: i64 = 0;
-    let mut h: u64 = 0;
-    let mut i = 0;
-    let mut j = 1;
-    while j < n {
-        let stray = strayed(n, edges, distances, parents, masks, lengths, i, j);
-        let off = stray.off;
-        r += off * off;
-        h += stray.edges * stray.edges;
-        let next = pairs::next_pair(i, j);
-        i = next.i;
-        j = next.j;
+    let one_each = ones();
+    SquareSums {
+        r: sum_x(n, edges, 1000, distances, parents, lengths),
+        h: sum_x(n, edges, 0, distances, parents, &one_each),
     }
-    SquareSums { r, h: h as i64 }
 }

@@ -3,22 +3,35 @@
 ghost use mathlib.Core.Path.{_≡_};
 ghost use Prim.Native.Nat.{_+_, _-_, _≤_, _<_};
 ghost use lib.IntN.{pos};
+ghost use lib.ListN.{length};
 ghost use Rattle.exact.specs.LeastSquares.{path};
 ghost use Rattle.exact.specs.Table.{table, entryOf};
 ghost use Rattle.tree_theory.specs.Chain.{parentOf, partsPair};
-ghost use Rattle.inner_paths.specs.Between.{Lengthened, Between, spots};
+ghost use Rattle.inner_paths.specs.Between.{Lengthened, Between, apartIn, spots};
 
-// At most 62 vertices are inner; a row of the table has 64 entries.
-pub const SPOTS: usize = 3_968;
+// The pairs of 62 vertices: no more are inner.
+pub const SPOTS: usize = 1_891;
 
-fn no_paths() -> [i64; SPOTS]
+// Zeros, room for the paths between inner vertices.
+pub fn no_paths() -> [i64; SPOTS]
     ensures { λ r. ⌜ r ≡ table spots (λ _. pos 0) ⌝ }
 {
     [0; SPOTS]
 }
 
+// What the table says of two vertices, counted from the root down.
+fn apart(between: &[i64; SPOTS], p: usize, q: usize) -> i64
+    requires { ⌜ (length (now between) ≡ spots) × (p < 62) × (q < 62) ⌝ }
+    ensures { λ r. ⌜ r ≡ apartIn (now (between .entry)) p q ⌝ }
+{
+    if p == q {
+        return 0;
+    }
+    between[matrix::pair_place(p, q)]
+}
+
 // One vertex more: the path to each vertex above it in number is by its edge longer than its parent's.
-fn reach(edges: usize, parents: &[u8], x: &[i64], n: usize, a: usize, between: &mut [i64; SPOTS])
+fn reach(n: usize, edges: usize, parents: &[u8], x: &[i64], a: usize, between: &mut [i64; SPOTS])
     requires { ⌜ Lengthened n edges (now parents) (now x) ⌝ }
     requires { ⌜ (n ≤ a) × (a < edges) ⌝ }
     requires { ⌜ Between edges (parentOf (now parents)) (entryOf (now x)) (edges - a) (now between) ⌝ }
@@ -29,25 +42,32 @@ fn reach(edges: usize, parents: &[u8], x: &[i64], n: usize, a: usize, between: &
     let above = edges - parents[a] as usize;
     let mut b = 0;
     while b < own {
-        let far = step + between[64 * above + b];
-        between[64 * own + b] = far;
-        between[64 * b + own] = far;
+        let far = step + apart(between, above, b);
+        between[matrix::place(b, own)] = far;
         b += 1;
     }
-    between[64 * own + own] = 0;
 }
 
-// The paths between all inner vertices, from the root down.
+// The paths between all inner vertices, from the root down, in a lent table.
+pub fn fill_paths(n: usize, edges: usize, parents: &[u8], x: &[i64], between: &mut [i64; SPOTS])
+    requires { ⌜ Lengthened n edges (now parents) (now x) ⌝ }
+    requires { ⌜ length (now between) ≡ spots ⌝ }
+    ensures { λ _. ⌜ Between edges (parentOf (now (parents .entry))) (entryOf (now (x .entry))) (edges - n + 1) (now (between .exit)) ⌝ }
+{
+    let mut a = edges;
+    while a > n {
+        a -= 1;
+        reach(n, edges, parents, x, a, between);
+    }
+}
+
+// The same in a table of its own.
 pub fn inner_paths(n: usize, edges: usize, parents: &[u8], x: &[i64]) -> [i64; SPOTS]
     requires { ⌜ Lengthened n edges (now parents) (now x) ⌝ }
     ensures { λ r. ⌜ Between edges (parentOf (now (parents .entry))) (entryOf (now (x .entry))) (edges - n + 1) r ⌝ }
 {
     let mut between = no_paths();
-    let mut a = edges;
-    while a > n {
-        a -= 1;
-        reach(edges, parents, x, n, a, &mut between);
-    }
+    fill_paths(n, edges, parents, x, &mut between);
     between
 }
 
@@ -68,5 +88,5 @@ pub fn path(
 {
     let first = edges - parents[i] as usize;
     let second = edges - parents[j] as usize;
-    x[i] + x[j] + between[64 * first + second]
+    x[i] + x[j] + apart(between, first, second)
 }

@@ -27,7 +27,7 @@ use Rattle.tree_theory.specs.Limits.{maxEdges}
 use Rattle.fit_theory.specs.Quantities.{partsIn}
 use Rattle.fit_theory.proofs.Ranges.{mul-abs}
 use Rattle.fit_theory.proofs.Zeros.{yes-less, no-less}
-use Rattle.paths.proofs.Climb.{few-edges}
+use Rattle.paths.proofs.Bounds.{few-edges}
 use Rattle.pairs.specs.Ready.{Ready, InRange}
 use Rattle.edge_sums.specs.Sums.{EdgeSums}
 use Rattle.long_digits.specs.Digits.{base, value, natural}

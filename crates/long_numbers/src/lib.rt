@@ -75,7 +75,7 @@ pub fn long_f(
     ensures { λ r. ⌜ Natural levels (natAbs (sumF (pairs n) edges (partsIn (now (distances .entry)) (now (parents .entry))) (distance (now (distances .entry))) (pos (longDenominator levels (now (d .entry)))) (longNumerator levels edges (now (digits .entry))))) r ⌝ }
 {
     let zeros = tree::edge_zeros();
-    let squares = fit_numbers::sum_f(n, edges, 1, distances, parents, masks, &zeros);
+    let squares = fit_numbers::sum_f(n, edges, 1, distances, parents, &zeros);
     let splits = edge_sums::edge_sums(n, edges, 1, distances, parents, masks, &zeros);
     let f = long_levels::f_levels(edges, levels, squares, &splits, d, digits);
     long_carrying::carried(levels, &f)

@@ -36,7 +36,7 @@ use Rattle.tree_theory.specs.EdgeTable.{EdgeTable}
 use Rattle.fit_theory.specs.Quantities.{partsIn, roundedOf, treeLength, fOf, rOf, hOf}
 use Rattle.fit_theory.proofs.Demand3.{least, r-range, h-high}
 use Rattle.paths.specs.Standing.{Standing}
-use Rattle.pairs.specs.Ready.{Ready}
+use Rattle.fit_numbers.specs.Terms.{Summable}
 use Rattle.long_digits.specs.Digits.{base}
 use Rattle.long_theory.specs.Long.{digitOf, longDenominator, longNumerator, longNumerators, LongProper, LongStands}
 use Rattle.long_sums.specs.Ready.{LongReady}
@@ -153,13 +153,16 @@ module _ (rule : Rule) (N : ℕ) (ds ps Ds : List ℕ) (ns : List ℤ) (s : Long
     pub rounded-is : EdgeTable K (roundedOf D n) ms
     rounded-is = record { size = t .size; entries = entry-is; rest = t .rest }
 
-    pub ready-rounded : {cs : List ℕ} → Standing N K ps cs → Ready N K 1000 ds ps cs ms
-    ready-rounded w = record {
-      standing = w;
+    pub rounded-summable : Summable N K 1000 ds ps ms
+    rounded-summable = record {
+      lengthened = record {
+        room = omega arith;
+        allowed = s .fitted .posted .tree;
+        small = record { room = omega (arith, t .size, s .lengths .few); near = λ v l. omega (arith, near v l) };
+      };
       most = omega arith;
       room = omega (arith, s .fitted .posted .matrix .whole);
       near = known-near (s .fitted .posted .matrix);
-      small = record { room = omega (arith, t .size, s .lengths .few); near = λ v l. omega (arith, near v l) };
     }
 
     pub r-same : sumR (pairs N) K (partsIn ds ps) (distance ds) (entryOf ms) ≡ rOf N ds ps D n

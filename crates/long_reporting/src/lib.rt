@@ -97,7 +97,7 @@ pub fn long_numbered(
         &masks,
         digits,
     );
-    let squares = fit_numbers::sum_squares(strains, edges, distances, parents, &masks, &rounded);
+    let squares = fit_numbers::sum_squares(strains, edges, distances, parents, &rounded);
     LongReport {
         strains: n,
         edges,

@@ -27,7 +27,7 @@ use Rattle.tree_theory.specs.Limits.{maxEdges}
 use Rattle.tree_theory.specs.EdgeTable.{EdgeTable}
 use Rattle.fit_theory.specs.Quantities.{partsIn}
 use Rattle.fit_theory.proofs.Ranges.{remainder-range}
-use Rattle.paths.proofs.Climb.{few-edges}
+use Rattle.paths.proofs.Bounds.{few-edges}
 use Rattle.pairs.specs.Ready.{Ready, InRange}
 use Rattle.pairs.proofs.Bounded.{in-bounds}
 use Rattle.edge_sums.specs.Sums.{EdgeSums}

@@ -85,8 +85,10 @@ fn all_rows(
     requires { ⌜ at + widestPair * pairCount n ≤ length (now text) ⌝ }
     ensures { λ r. ⌜ Wrote (now (text .entry)) (now (text .exit)) at (rowsBy (wordAt (now (names .entry)) (now (starts .entry))) n edges (now (distances .entry)) (parentOf (now (parents .entry))) d (entryOf (now (numerators .entry))) (entryOf (now (rounded .entry)))) r ⌝ }
 {
-    let exactly = inner_paths::inner_paths(n, edges, parents, numerators);
-    let nearly = inner_paths::inner_paths(n, edges, parents, rounded);
+    let mut exactly = inner_paths::no_paths();
+    let mut nearly = inner_paths::no_paths();
+    inner_paths::fill_paths(n, edges, parents, numerators, &mut exactly);
+    inner_paths::fill_paths(n, edges, parents, rounded, &mut nearly);
     let mut next = at;
     let mut i = 0;
     while i < n {

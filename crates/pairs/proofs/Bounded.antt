@@ -5,7 +5,7 @@ use lib.IntN.{ℤ}
 use Rattle.exact.specs.Table.{entryOf}
 use Rattle.matrix.specs.Place.{distance, place}
 use Rattle.fit_theory.proofs.Ranges.{Bounds}
-use Rattle.paths.proofs.Climb.{few-edges}
+use Rattle.paths.proofs.Bounds.{few-edges}
 use Rattle.pairs.specs.Ready.{Ready, InRange}
 
 pub in-bounds : {N K D : ℕ} {ds ps cs : List ℕ} {ns : List ℤ} → Ready N K D ds ps cs ns → InRange K ns → Bounds K (distance ds) D (entryOf ns)

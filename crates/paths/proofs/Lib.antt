@@ -1,4 +1,1 @@
-pub mod Climb
 pub mod Bounds
-pub mod Adding
-pub mod Counting

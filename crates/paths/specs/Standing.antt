@@ -1,4 +1,4 @@
--- What a climb needs of the tables that it is lent. They may be longer than the counts say.
+-- What is asked of the tables that are lent. They may be longer than the counts say.
 use mathlib.Core.Path.{_≡_}
 use mathlib.Core.List.{List}
 use Prim.Native.Nat.{ℕ, _*_, _≤_, _<_}

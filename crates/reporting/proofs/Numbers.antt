@@ -1,5 +1,6 @@
 -- What keeps the numbers of a fit within 64 bits, and that the table of rounded lengths gives R.
--- `f-fits`, `r-fits`: the ranges of RULES, Least squares. `ready-rounded`: the rounded lengths can be summed over.
+-- `f-fits`, `r-fits`: the ranges of RULES, Least squares. `numerators-summable`,
+-- `rounded-summable`: the lengths and the rounded ones can be summed over.
 -- `r-same`, `rounded-is`: the table behind whose edges stand zeros has the sums and the entries of the definition.
 use mathlib.Core.Path.{_≡_, sym, _∙_, ap, subst}
 use mathlib.Core.Bool.{Bool, cond}
@@ -30,19 +31,15 @@ use Rattle.matrix.proofs.Completes.{known-near}
 use Rattle.tree_theory.specs.Limits.{maxEdges}
 use Rattle.lengths.specs.Limits.{maxDenominator, maxNumerator}
 use Rattle.fit_theory.specs.Quantities.{partsIn, roundedOf, treeLength, fOf, rOf, hOf}
-use Rattle.fit_theory.specs.Stands.{Posted, Stands}
+use Rattle.fit_theory.specs.Stands.{Stands}
 use Rattle.fit_theory.proofs.Demand3.{least, f-range, r-range, h-high}
 use Rattle.fit_theory.proofs.Ranges.{bounds, rounded-range}
-use Rattle.paths.specs.Standing.{Standing}
-use Rattle.pairs.specs.Ready.{Ready}
 use Rattle.pairs.proofs.Lent as lent
+use Rattle.fit_numbers.specs.Terms.{Summable}
 use Rattle.fit_numbers.proofs.Written.{rounded-entry}
 use Rattle.reporting.specs.Answers.{maxTreeLength}
 
 module _ (rule : Rule) (N : ℕ) (ds ps : List ℕ) (D : ℕ) (ns : List ℤ) (s : Stands rule N ds ps D ns) where
-  pub posted : Posted N ds ps
-  posted = s .fitted .posted
-
   pub edges-few : length ps ≤ maxEdges
   edges-few = lent.few-edges (s .fitted .posted .tree)
 
@@ -52,6 +49,15 @@ module _ (rule : Rule) (N : ℕ) (ds ps : List ℕ) (D : ℕ) (ns : List ℤ) (s
 
   pub total-is : sum (length ps) (entryOf ns) ≡ treeLength ns
   total-is = ap (λ (k : ℕ). sum k (entryOf ns)) (sym (s .lengths .whole))
+
+  -- the numerators can be summed over
+  pub numerators-summable : Summable N (length ps) D ds ps ns
+  numerators-summable = record {
+    lengthened = record { room = omega arith; allowed = s .fitted .posted .tree; small = lent.small (s .lengths) };
+    most = s .lengths .most;
+    room = omega (arith, s .fitted .posted .matrix .whole);
+    near = known-near (s .fitted .posted .matrix);
+  }
 
   pub f-fits : Fits63 (fOf N ds ps D ns)
   f-fits = record { low = least rule N ds ps D ns (s .fitted) .f-low; high = ≤-trans (f-range rule N ds ps D ns s) (record { le = tt }) }
@@ -64,16 +70,19 @@ module _ (rule : Rule) (N : ℕ) (ds ps : List ℕ) (D : ℕ) (ns : List ℤ) (s
     entry-is : (v : ℕ) → v < length ps → entryOf ms v ≡ roundedOf D ns v
     entry-is v h = rounded-entry (length ps) D ns ms e edges-few v h
 
-    pub ready-rounded : {cs : List ℕ} → Standing N (length ps) ps cs → Ready N (length ps) 1000 ds ps cs ms
-    ready-rounded w = record {
-      standing = w;
+    pub rounded-summable : Summable N (length ps) 1000 ds ps ms
+    rounded-summable = record {
+      lengthened = record {
+        room = omega arith;
+        allowed = s .fitted .posted .tree;
+        small = record {
+          room = omega (arith, edges-few, ap length e, length-table maxEdges (λ u. cond (ltb u (length ps)) (nearest D (entryOf ns u)) (pos 0)));
+          near = λ v h. omega (arith, ap natAbs (entry-is v h), rounded-range (bounds (s .fitted .posted .matrix) (s .lengths)) (partsIn ds ps) (s .lengths .one) v h);
+        };
+      };
       most = omega arith;
       room = omega (arith, s .fitted .posted .matrix .whole);
       near = known-near (s .fitted .posted .matrix);
-      small = record {
-        room = omega (arith, edges-few, ap length e, length-table maxEdges (λ u. cond (ltb u (length ps)) (nearest D (entryOf ns u)) (pos 0)));
-        near = λ v h. omega (arith, ap natAbs (entry-is v h), rounded-range (bounds (s .fitted .posted .matrix) (s .lengths)) (partsIn ds ps) (s .lengths .one) v h);
-      };
     }
 
     pub r-same : sumR (pairs N) (length ps) (partsIn ds ps) (distance ds) (entryOf ms) ≡ rOf N ds ps D ns

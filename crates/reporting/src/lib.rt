@@ -60,17 +60,9 @@ pub fn numbered(
 {
     let strains = n as usize;
     let edges = parents.len();
-    let masks = clusters::clusters(strains, parents);
     let thousandths = fit_numbers::rounded(edges, d, numerators);
-    let f = fit_numbers::sum_f(strains, edges, d, distances, parents, &masks, numerators);
-    let squares = fit_numbers::sum_squares(
-        strains,
-        edges,
-        distances,
-        parents,
-        &masks,
-        &thousandths,
-    );
+    let f = fit_numbers::sum_f(strains, edges, d, distances, parents, numerators);
+    let squares = fit_numbers::sum_squares(strains, edges, distances, parents, &thousandths);
     let length = fit_numbers::total(edges, numerators);
     tables::copy_out(edges, &thousandths, rounded);
     FitReport {

@@ -14,7 +14,8 @@ ghost use Rattle.matrix.specs.Place.{pairCount, rowPlace};
 ghost use Rattle.tree_theory.specs.Limits.{maxEdges};
 ghost use Rattle.tree_theory.specs.Chain.{parentOf, partsPair};
 ghost use Rattle.fit_theory.specs.Stands.{Posted};
-ghost use Rattle.paths.specs.Standing.{Standing, Small};
+ghost use Rattle.paths.specs.Standing.{Standing};
+ghost use Rattle.inner_paths.specs.Between.{Lengthened};
 ghost use Rattle.tables.specs.Answers.{SplitTable, SplitAnswer, PathsAnswer};
 
 // The split sum of each edge, then zeros. Over a denominator of 1 and no lengths a remainder is the distance itself,
@@ -69,25 +70,19 @@ pub fn split_sums(n: u32, distances: &[u16], parents: &[u8], sums: &mut [i64]) -
 }
 
 // Each pair's path, at the pair's place.
-fn fill_paths(
-    n: usize,
-    parents: &[u8],
-    masks: &[u64; Tree::MAX_VERTICES],
-    numerators: &[i64],
-    paths: &mut [i64],
-)
-    requires { ⌜ Standing n (length (now parents)) (now parents) (now masks) ⌝ }
-    requires { ⌜ Small (length (now parents)) (now numerators) ⌝ }
+fn fill_paths(n: usize, parents: &[u8], numerators: &[i64], paths: &mut [i64])
+    requires { ⌜ Lengthened n (length (now parents)) (now parents) (now numerators) ⌝ }
     requires { ⌜ length (now paths) ≡ pairCount n ⌝ }
     ensures { λ _. ⌜ length (now (paths .exit)) ≡ length (now (paths .entry)) ⌝ }
     ensures { λ _. ⌜ ((i j : ℕ) → i < j → j < n → entryOf (now (paths .exit)) (rowPlace n i j) ≡ path (length (now (parents .entry))) (partsPair (parentOf (now (parents .entry)))) (entryOf (now (numerators .entry))) (i, j)) ⌝ }
 {
     let edges = parents.len();
+    let between = inner_paths::inner_paths(n, edges, parents, numerators);
     let mut i = 0;
     let mut j = 1;
     while j < n {
         let at = matrix::row_place(n, i, j);
-        paths[at] = paths::path(n, edges, parents, masks, numerators, i, j);
+        paths[at] = inner_paths::path(n, edges, parents, numerators, &between, i, j);
         let next = pairs::next_pair(i, j);
         i = next.i;
         j = next.j;
@@ -116,8 +111,6 @@ pub fn path_lengths(
             place: Place::Nowhere,
         });
     }
-    let strains = n as usize;
-    let masks = clusters::clusters(strains, parents);
-    fill_paths(strains, parents, &masks, numerators, paths);
+    fill_paths(n as usize, parents, numerators, paths);
     Verdict::Accepted
 }

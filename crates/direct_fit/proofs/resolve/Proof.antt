@@ -9,7 +9,7 @@ use mir.Syntax.{w64}
 use mir.Val.{SFits}
 use Rattle.paths.specs.Standing.{Standing}
 use Rattle.pairs.proofs.Lent.{standing, few-edges}
-use Rattle.direct_fit.proofs.Answering.{res, posted, direct, splits, known, tops-are, bottoms-are, ready-rounded, r-same, r-within, rounded-is}
+use Rattle.direct_fit.proofs.Answering.{res, posted, direct, splits, known, tops-are, bottoms-are, rounded-summable, r-same, r-within, rounded-is}
 use Rattle.direct_fit.proofs.resolve.Statement.{statement}
 use Rattle.direct_fit.proofs.resolve.Tie as tie
 
@@ -64,16 +64,16 @@ slice-aggregate-sum-squares : tie.Need-slice-aggregate-sum-squares
 slice-aggregate-sum-squares c = search needs
 
 sum-squares-requires : tie.Need-sum-squares-requires
-sum-squares-requires c κs = let f = c .before .before .before .before .before in
+sum-squares-requires c κs = let f = c .before .before .before .before in
     let s = sums f in
     let m = made f in
     let p = given m .pre in (
-      ready-rounded (N m) (ds m) (ps m) (p .0) (p .1 .0) (s .split .result) (s .split .ensures) _ _ (f .fill .result) (f .fill .ensures) (m .clusters .result) (stands m),
+      rounded-summable (N m) (ds m) (ps m) (p .0) (p .1 .0) (s .split .result) (s .split .ensures) _ _ (f .fill .result) (f .fill .ensures),
       r-within (N m) (ds m) (ps m) (p .0) (p .1 .0) (s .split .result) (s .split .ensures) _ _ (f .fill .result) (f .fill .ensures),
     )
 
 copy-out-requires : tie.Need-copy-out-requires
-copy-out-requires c κs = let p = given (made (c .before .before .before .before .before .before .before .before)) .pre in (few-edges (p .0 .tree), p .1 .1 .2)
+copy-out-requires c κs = let p = given (made (c .before .before .before .before .before .before .before)) .pre in (few-edges (p .0 .tree), p .1 .1 .2)
 
 same-length : tie.Need-same-length
 same-length c = search needs
@@ -86,7 +86,7 @@ same-length-3 c = search needs
 
 returns : tie.Need-returns
 returns c = let q = c .before .before .before .before .before in
-    let f = q .before .before .before .before .before .before in
+    let f = q .before .before .before .before .before in
     let s = sums f in
     let m = made f in
     let p = given m .pre in

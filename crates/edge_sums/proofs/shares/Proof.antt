@@ -2,7 +2,7 @@
 use Prim.Native.Nat.{_-_}
 use native.Mathlib.Omega.{arith}
 use borrow.Author.Needs.{needs}
-use Rattle.paths.proofs.Climb.{few-edges}
+use Rattle.paths.proofs.Bounds.{few-edges}
 use Rattle.edge_sums.proofs.Gathering.{Gathered, gather-start, gather-end, parent-low, numerator-back, numerator-low, ways-low, turn-room, carrying, all-apart, gather-turn}
 use Rattle.edge_sums.proofs.shares.Statement.{statement}
 use Rattle.edge_sums.proofs.shares.Tie as tie

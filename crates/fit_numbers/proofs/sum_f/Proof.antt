@@ -18,56 +18,63 @@ use Rattle.matrix.specs.Place.{distance}
 use Rattle.fit_theory.specs.Quantities.{partsIn}
 use Rattle.pairs.proofs.Following.{ahead, Follows, follows}
 use Rattle.pairs.proofs.Turns.{PairAt, pair-start, swept-start, pair-next, swept-end}
+use Rattle.fit_numbers.proofs.Back.{ready-of}
 use Rattle.fit_numbers.proofs.Terms.{term-whole, gathered-next, gathered-is}
 use Rattle.fit_numbers.specs.Terms.{termOf}
 use Rattle.fit_numbers.proofs.sum_f.Statement.{statement}
 use Rattle.fit_numbers.proofs.sum_f.Tie as tie
 
 abbrev Inv-loop : tie.InvT-loop
-Inv-loop n edges d distances parents masks numerators acc₀ i₀ j₀ acc i j = PairAt n i j × (acc < 2 ^ 64) × Modulo acc (sweep (termOf edges d distances parents numerators) j i)
+Inv-loop n edges d distances parents numerators between acc₀ i₀ j₀ acc i j = PairAt n i j × (acc < 2 ^ 64) × Modulo acc (sweep (termOf edges d distances parents numerators) j i)
 
 abbrev μ-loop : tie.MeasureT-loop
-μ-loop n edges d distances parents masks numerators acc₀ i₀ j₀ acc i j = ahead n i j
+μ-loop n edges d distances parents numerators between acc₀ i₀ j₀ acc i j = ahead n i j
+
+inner-paths-requires : tie.Need-inner-paths-requires Inv-loop μ-loop
+inner-paths-requires c κs = c .before .before .pre .0 .lengthened
 
 loop-holds : tie.Need-loop-holds Inv-loop μ-loop
-loop-holds c = (pair-start _ (c .before .before .pre .0 .standing .allowed .three), omega arith, rw swept-start modulo-zero)
+loop-holds c = (pair-start _ (c .before .before .before .pre .0 .lengthened .allowed .three), omega arith, rw swept-start modulo-zero)
 
 product-requires : tie.Need-product-requires Inv-loop μ-loop
-product-requires c κs = search needs
+product-requires c κs = let l = c .before .before in
+    let p = l .before .before .before .before .pre in
+    (p .0, (p .1 .0, (l .before .inner-paths .ensures, (l .loop .inv .0 .rising, c .before .loop-test .taken))))
 
 accumulate-requires : tie.Need-accumulate-requires Inv-loop μ-loop
 accumulate-requires c κs = search needs
 
 next-pair-requires : tie.Need-next-pair-requires Inv-loop μ-loop
-next-pair-requires c κs = search needs
+next-pair-requires c κs = let l = c .before .before .before .before in
+    (l .loop .inv .0 .rising, omega (arith, c .before .before .before .loop-test .taken, l .before .before .before .before .pre .0 .lengthened .allowed .few))
 
 -- what the next pair tells
-next : (c : tie.After-next-pair Inv-loop μ-loop) → let l = c .before .before .before .before .loop in Follows (l .i) (l .j) (c .next-pair .result)
-next c = let l = c .before .before .before .before in
-    follows (l .loop .i) (l .loop .j) (l .loop .inv .0 .rising) (omega (arith, c .before .before .before .loop-test .taken, l .before .before .before .pre .0 .standing .allowed .few)) (c .next-pair .result) (c .next-pair .ensures)
+next : (c : tie.After-next-pair Inv-loop μ-loop) → let l = c .before .before .before .before .before .loop in Follows (l .i) (l .j) (c .next-pair .result)
+next c = let l = c .before .before .before .before .before in
+    follows (l .loop .i) (l .loop .j) (l .loop .inv .0 .rising) (omega (arith, c .before .before .before .before .loop-test .taken, l .before .before .before .before .pre .0 .lengthened .allowed .few)) (c .next-pair .result) (c .next-pair .ensures)
 
 loop-less : tie.Need-loop-less Inv-loop μ-loop
 loop-less c = next c .nearer _ (omega arith)
 
 loop-again : tie.Need-loop-again Inv-loop μ-loop
-loop-again c = let l = c .before .before .before .before in
-    let p = l .before .before .before in
+loop-again c = let l = c .before .before .before .before .before in
+    let p = l .before .before .before .before in
     let a = p .args in
     let f = termOf (a .edges) (a .d) (a .distances .now) (a .parents .now) (a .numerators .now) in (
-      pair-next (l .loop .inv .0) (c .before .before .before .loop-test .taken) (next c),
+      pair-next (l .loop .inv .0) (c .before .before .before .before .loop-test .taken) (next c),
       omega arith,
       gathered-next f _ _ _ _ _ _ (l .loop .inv .2) (c .before .accumulate .ensures)
-          (ap (λ (z : ℤ). toZ w64 (ofZ w64 z)) (c .before .before .product .ensures) ∙ term-whole (p .pre .0) (p .pre .1 .0) (l .loop .i, l .loop .j)) (next c),
+          (ap (λ (z : ℤ). toZ w64 (ofZ w64 z)) (c .before .before .product .ensures) ∙ term-whole (ready-of (p .pre .0)) (p .pre .1 .0) (l .loop .i, l .loop .j)) (next c),
     )
 
 -- F at the end
-gathered : (c : tie.After-loop Inv-loop μ-loop) → let a = c .before .before .before .before .args in
+gathered : (c : tie.After-loop Inv-loop μ-loop) → let a = c .before .before .before .before .before .args in
     pos (c .before .loop .acc) ≡ sumF (pairs (a .n)) (a .edges) (partsIn (a .distances .now) (a .parents .now)) (distance (a .distances .now)) (pos (a .d)) (entryOf (a .numerators .now))
 gathered c = let l = c .before in
-    gathered-is _ _ (l .loop .inv .1) (l .before .before .before .pre .1 .1) (subst (Modulo (l .loop .acc)) (swept-end _ (l .loop .inv .0) (c .loop-test .left)) (l .loop .inv .2))
+    gathered-is _ _ (l .loop .inv .1) (l .before .before .before .before .pre .1 .1) (subst (Modulo (l .loop .acc)) (swept-end _ (l .loop .inv .0) (c .loop-test .left)) (l .loop .inv .2))
 
 high : (c : tie.After-loop Inv-loop μ-loop) → c .before .loop .acc ≤ 9223372036854775807
-high c = ≤-pos (subst (λ z. z ≤ᶻ pos 9223372036854775807) (sym (gathered c)) (c .before .before .before .before .pre .1 .1 .high))
+high c = ≤-pos (subst (λ z. z ≤ᶻ pos 9223372036854775807) (sym (gathered c)) (c .before .before .before .before .before .pre .1 .1 .high))
 
 cast-result : tie.Need-cast-result Inv-loop μ-loop
 cast-result c = fits-abs _ (omega (arith, high c))
@@ -81,6 +88,7 @@ sum-f-spec =
     (tie.spec
     Inv-loop
     μ-loop
+    inner-paths-requires
     loop-holds
     product-requires
     accumulate-requires

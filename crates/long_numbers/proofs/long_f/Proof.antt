@@ -1,5 +1,6 @@
 -- The sum of squares and the split sums, then the levels, then the carries.
 use native.Mathlib.Omega.{arith}
+use Rattle.fit_numbers.proofs.Back.{summable}
 use Rattle.long_numbers.proofs.Numbers.{none-ready, none-range, squares-fits, squares-back, splits, f-up, f-natural, table-near}
 use borrow.Author.Needs.{needs}
 use Rattle.long_numbers.proofs.long_f.Statement.{statement}
@@ -19,7 +20,7 @@ slice-aggregate-sum-f : tie.Need-slice-aggregate-sum-f
 slice-aggregate-sum-f c = search needs
 
 sum-f-requires : tie.Need-sum-f-requires
-sum-f-requires c κs = let s = c .before .before .before .before .before in let z = c .before .edge-zeros .ensures in (none-ready (s .pre .0) z, (none-range (s .pre .0) z, squares-fits (s .pre .0) z))
+sum-f-requires c κs = let s = c .before .before .before .before .before in let z = c .before .edge-zeros .ensures in (summable (none-ready (s .pre .0) z), (none-range (s .pre .0) z, squares-fits (s .pre .0) z))
 
 slice-aggregate-edge-sums : tie.Need-slice-aggregate-edge-sums
 slice-aggregate-edge-sums c = search needs

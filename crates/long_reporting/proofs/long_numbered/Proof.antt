@@ -10,7 +10,7 @@ use Rattle.fit_theory.proofs.Demand3.{least}
 use Rattle.fit_numbers.proofs.Back.{fits-of}
 use Rattle.pairs.proofs.Lent.{standing}
 use Rattle.long_numbers.specs.Wides.{Natural, Wides}
-use Rattle.long_reporting.proofs.Reporting.{long-ready, f-same, f-up, total-same, rounded-is, ready-rounded, r-same, r-fits, h-fits}
+use Rattle.long_reporting.proofs.Reporting.{long-ready, f-same, f-up, total-same, rounded-is, rounded-summable, r-same, r-fits, h-fits}
 use borrow.Author.Needs.{needs}
 use Rattle.long_reporting.proofs.long_numbered.Statement.{statement}
 use Rattle.long_reporting.proofs.long_numbered.Tie as tie
@@ -36,22 +36,22 @@ slice-aggregate-sum-squares : tie.Need-slice-aggregate-sum-squares
 slice-aggregate-sum-squares c = search needs
 
 sum-squares-requires : tie.Need-sum-squares-requires
-sum-squares-requires c κs = let s = c .before .before .before .before .before .before .before .before .before in let t = c .before .before .before .before .long-rounded .ensures in (ready-rounded (s .args .rule) (s .args .n) (s .args .distances .now) (s .args .parents .now) (s .args .d .now) (s .args .digits .now) (s .pre) (t .0) (t .1) (standing (s .args .n) (s .args .parents .now) _ (c .before .before .before .before .before .clusters .ensures) (s .pre .fitted .posted .tree)), r-fits (s .args .rule) (s .args .n) (s .args .distances .now) (s .args .parents .now) (s .args .d .now) (s .args .digits .now) (s .pre) (t .0) (t .1))
+sum-squares-requires c κs = let s = c .before .before .before .before .before .before .before .before in let t = c .before .before .before .long-rounded .ensures in (rounded-summable (s .args .rule) (s .args .n) (s .args .distances .now) (s .args .parents .now) (s .args .d .now) (s .args .digits .now) (s .pre) (t .0) (t .1), r-fits (s .args .rule) (s .args .n) (s .args .distances .now) (s .args .parents .now) (s .args .d .now) (s .args .digits .now) (s .pre) (t .0) (t .1))
 
 long-total-requires : tie.Need-long-total-requires
 long-total-requires c κs = search needs
 
 long-mean-requires : tie.Need-long-mean-requires
-long-mean-requires c κs = let s = c .before .before .before .before .before .before .before .before .before .before .before in (s .pre .fitted .posted .matrix, (s .pre .lengths .most, s .pre .lengths .digits))
+long-mean-requires c κs = let s = c .before .before .before .before .before .before .before .before .before .before in (s .pre .fitted .posted .matrix, (s .pre .lengths .most, s .pre .lengths .digits))
 
 returns : tie.Need-returns
-returns c = let s = c .before .before .before .before .before .before .before .before .before .before .before .before .before in let t = c .before .before .before .before .before .before .before .before .long-rounded .ensures in let q = c .before .before .before .sum-squares in
+returns c = let s = c .before .before .before .before .before .before .before .before .before .before .before .before in let t = c .before .before .before .before .before .before .before .long-rounded .ensures in let q = c .before .before .before .sum-squares in
     record {
       strains = refl;
       edges = refl;
       rounded = rounded-is (s .args .rule) (s .args .n) (s .args .distances .now) (s .args .parents .now) (s .args .d .now) (s .args .digits .now) (s .pre) (t .0) (t .1);
       total = subst (λ (z : ℤ). Wides (length (s .args .d .now)) z (c .before .before .long-total .result .negative) (c .before .before .long-total .result .digits)) (total-same (s .args .rule) (s .args .n) (s .args .distances .now) (s .args .parents .now) (s .args .d .now) (s .args .digits .now) (s .pre)) (c .before .before .long-total .ensures);
-      f = subst (λ (z : ℤ). Natural (length (s .args .d .now)) (natAbs z) (c .before .before .before .before .before .before .long-f .result)) (f-same (s .args .rule) (s .args .n) (s .args .distances .now) (s .args .parents .now) (s .args .d .now) (s .args .digits .now) (s .pre)) (c .before .before .before .before .before .before .long-f .ensures);
+      f = subst (λ (z : ℤ). Natural (length (s .args .d .now)) (natAbs z) (c .before .before .before .before .before .long-f .result)) (f-same (s .args .rule) (s .args .n) (s .args .distances .now) (s .args .parents .now) (s .args .d .now) (s .args .digits .now) (s .pre)) (c .before .before .before .before .before .long-f .ensures);
       r = toZ-ofZ {w = w64} {z = q .result .r} (fits-of _ _ (q .ensures .0) (r-fits (s .args .rule) (s .args .n) (s .args .distances .now) (s .args .parents .now) (s .args .d .now) (s .args .digits .now) (s .pre) (t .0) (t .1))) ∙ q .ensures .0 ∙ r-same (s .args .rule) (s .args .n) (s .args .distances .now) (s .args .parents .now) (s .args .d .now) (s .args .digits .now) (s .pre) (t .0) (t .1);
       h = toZ-ofZ {w = w64} {z = q .result .h} (fits-of _ _ (q .ensures .1) (h-fits (s .args .rule) (s .args .n) (s .args .distances .now) (s .args .parents .now) (s .args .d .now) (s .args .digits .now) (s .pre))) ∙ q .ensures .1;
       mean = c .before .long-mean .ensures;

@@ -1,7 +1,7 @@
 use Prim.Native.Nat.{ℕ, _-_}
 use native.Mathlib.Omega.{arith}
 use borrow.Author.Needs.{needs}
-use Rattle.paths.proofs.Climb.{few-edges}
+use Rattle.paths.proofs.Bounds.{few-edges}
 use Rattle.long_sums.proofs.Gathering.{Gathered, gather-start, gather-end, level-room, level-ready, level-range, levels, gather-turn}
 use Rattle.long_sums.proofs.long_sums.Statement.{statement}
 use Rattle.long_sums.proofs.long_sums.Tie as tie

@@ -1,10 +1,11 @@
 -- `path_lengths`: the tests by their answers, the buffer last, then each pair's path.
 use mathlib.Core.Path.{_≡_, sym, _∙_, ap₂}
+use native.Mathlib.Nat.{le-refl}
 use Rattle.verdict.specs.Answer.{answerOf, _orElse_}
 use Rattle.tree_theory.specs.Tests.{treeTests}
 use Rattle.lengths.specs.Tests.{lengthsTests}
 use lib.ListN.{length}
-use Rattle.pairs.proofs.Lent.{standing, small}
+use Rattle.pairs.proofs.Lent.{small}
 use Rattle.tables.proofs.Lent.{paths-refused, paths-allowed, paths-proper, paths-buffer, paths-filled}
 use borrow.Author.Needs.{needs}
 use Rattle.tables.proofs.path_lengths.Statement.{statement}
@@ -41,26 +42,21 @@ returns-2 c = let told = c .before .before in
     let made = told .before .before in
     paths-buffer _ _ _ _ _ (made .or-else .result) (asked made) (told .enum-told .given .1) (λ e. c .if1 .taken (e ∙ sym (c .before .pair-count .ensures)))
 
-clusters-requires : tie.Need-clusters-requires
-clusters-requires c κs = let told = c .before .before in
-    let made = told .before .before in
-    let a = made .before .before .before .before .args in
-    paths-allowed (a .n) (a .parents .now) (a .d) (a .numerators .now) (a .paths .now) (made .or-else .result) (asked made) (told .enum-told .given .1)
-
 fill-paths-requires : tie.Need-fill-paths-requires
-fill-paths-requires c κs = let else = c .before .before .before in
+fill-paths-requires c κs = let else = c .before in
     let told = else .before .before in
     let made = told .before .before in
-    let a = made .before .before .before .before .args in (
-      standing (a .n) (a .parents .now) _ (c .before .before .clusters .ensures) (paths-allowed (a .n) (a .parents .now) (a .d) (a .numerators .now) (a .paths .now) (made .or-else .result) (asked made) (told .enum-told .given .1)),
-      (small (paths-proper (a .n) (a .parents .now) (a .d) (a .numerators .now) (a .paths .now) (made .or-else .result) (asked made) (told .enum-told .given .1)), else .if1 .left ∙ else .before .pair-count .ensures),
+    let a = made .before .before .before .before .args in
+    let ok = paths-allowed (a .n) (a .parents .now) (a .d) (a .numerators .now) (a .paths .now) (made .or-else .result) (asked made) (told .enum-told .given .1) in (
+      record { room = le-refl (length (a .parents .now)); allowed = ok; small = small (paths-proper (a .n) (a .parents .now) (a .d) (a .numerators .now) (a .paths .now) (made .or-else .result) (asked made) (told .enum-told .given .1)) },
+      else .if1 .left ∙ else .before .pair-count .ensures,
     )
 
 same-length : tie.Need-same-length
 same-length c = search needs
 
 returns-3 : tie.Need-returns-3
-returns-3 c = let else = c .before .before .before .before .before in
+returns-3 c = let else = c .before .before .before in
     let told = else .before .before in
     let made = told .before .before in
     paths-filled _ _ _ _ _ (made .or-else .result) (asked made) (told .enum-told .given .1) _ (else .if1 .left ∙ else .before .pair-count .ensures) (c .before .fill-paths .ensures .0) (c .before .fill-paths .ensures .1)
@@ -77,7 +73,6 @@ path-lengths-spec =
     enum-told
     pair-count-requires
     returns-2
-    clusters-requires
     fill-paths-requires
     same-length
     returns-3)
