@@ -6,3 +6,4 @@ pub mod ByWays
 pub mod Carries
 pub mod Rows
 pub mod Meetings
+pub mod Swapping

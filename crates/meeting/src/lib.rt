@@ -137,9 +137,8 @@ fn row(
     whole
 }
 
-// The strains that come up an edge meet those that stand at its upper end m already, which came from
-// m's other children.
-pub fn meet(
+// The strains of one mask meet those of another at m, a row for each strain of the first.
+fn join(
     n: usize,
     d: u32,
     distances: &[u16],
@@ -162,5 +161,31 @@ pub fn meet(
         let r = row(n, d, distances, ways, there, j, own);
         give(own, j, m, r);
         left = low.rest;
+    }
+}
+
+// The strains that come up an edge meet those that stand at its upper end m already, which came from
+// m's other children.
+pub fn meet(
+    n: usize,
+    d: u32,
+    distances: &[u16],
+    ways: &[i64; Matrix::MAX_STRAINS],
+    here: u64,
+    there: u64,
+    m: usize,
+    own: &mut [i64; Tree::MAX_VERTICES],
+)
+    requires { ⌜ Carrying n d (now distances) (now ways) ⌝ }
+    requires { ⌜ ((j : ℕ) → bitAt here j ≡ true → Apart n d (now distances) (now ways) there j) ⌝ }
+    requires { ⌜ (length (now own) ≡ maxVertices) × (m < maxVertices) ⌝ }
+    requires { ⌜ mass maxVertices (now own) + pairMass * (ones here * ones there) < 2 ^ 63 ⌝ }
+    ensures { λ _. ⌜ Met d (now (distances .entry)) (now (ways .entry)) here there m (now (own .entry)) (now (own .exit)) ⌝ }
+{
+    // where at most one strain stands there, one row over those that come
+    if there & std::num::wrapping_sub_u64(there, 1) == 0 {
+        join(n, d, distances, ways, there, here, m, own);
+    } else {
+        join(n, d, distances, ways, here, there, m, own);
     }
 }

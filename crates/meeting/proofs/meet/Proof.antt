@@ -1,59 +1,26 @@
--- `meet`: one strain's row a turn, the lowest strain that is left.
-use native.Mathlib.Omega.{arith}
-use Rattle.meeting.proofs.Meetings.{Joining, join-start, join-end, join-apart, join-room, give-room, join-turn}
+-- Either mask may be gone through strain by strain.
+use borrow.Author.Needs.{needs}
+use Rattle.meeting.proofs.Swapping.{swap-apart, swap-room, swap-met}
 use Rattle.meeting.proofs.meet.Statement.{statement}
 use Rattle.meeting.proofs.meet.Tie as tie
 
-abbrev Inv-loop : tie.InvT-loop
-Inv-loop n d distances ways here there m own₀ left₀ own left = Joining n d distances ways here there m own₀ left own
+wrapping-sub-u64-requires : tie.Need-wrapping-sub-u64-requires
+wrapping-sub-u64-requires c κs = search needs
 
-abbrev μ-loop : tie.MeasureT-loop
-μ-loop n d distances ways here there m own₀ left₀ own left = left
+join-requires : tie.Need-join-requires
+join-requires c κs = let s = c .before .before .before .before in
+    let p = s .pre in
+    (p .0, (swap-apart (p .1 .0), (p .1 .1 .0, swap-room (s .args .here) (s .args .there) (s .args .own .now) (p .1 .1 .1))))
 
-loop-holds : tie.Need-loop-holds Inv-loop μ-loop
-loop-holds c = join-start (c .before .pre .1 .1 .0 .0)
+join-requires-2 : tie.Need-join-requires-2
+join-requires-2 c κs = search needs
 
-lowest-strain-requires : tie.Need-lowest-strain-requires Inv-loop μ-loop
-lowest-strain-requires c κs = c .loop-test .taken
+returns : tie.Need-returns
+returns c = swap-met (c .join .ensures)
 
-row-requires : tie.Need-row-requires Inv-loop μ-loop
-row-requires c κs = let l = c .before .before .before in
-    let p = l .before .before in
-    let low = c .before .lowest-strain in
-    (p .pre .0, (join-apart (p .pre .1 .0) (p .pre .1 .1 .1) (l .loop .inv) (low .ensures), (l .loop .inv .size, join-room (p .pre .1 .0) (p .pre .1 .1 .1) (l .loop .inv) (low .ensures))))
-
-give-requires : tie.Need-give-requires Inv-loop μ-loop
-give-requires c κs = let l = c .before .before .before .before .before in
-    let p = l .before .before in
-    let low = c .before .before .before .lowest-strain in
-    let row = c .before .row in (
-      (row .ensures .size, omega (arith, low .ensures .within), p .pre .1 .1 .0 .1),
-      give-room (p .pre .1 .0) (p .pre .1 .1 .1) (l .loop .inv) (low .ensures) (row .ensures),
-    )
-
-loop-less : tie.Need-loop-less Inv-loop μ-loop
-loop-less c = c .before .before .before .before .lowest-strain .ensures .less
-
-loop-again : tie.Need-loop-again Inv-loop μ-loop
-loop-again c = let l = c .before .before .before .before .before .before in
-    let p = l .before .before in
-    let low = c .before .before .before .before .lowest-strain in
-    let row = c .before .before .row in
-    join-turn (p .pre .1 .0) (p .pre .1 .1 .1) (l .loop .inv) (low .ensures) (row .ensures) (c .give .ensures)
-
-returns : tie.Need-returns Inv-loop μ-loop
-returns c = join-end (c .loop-test .left) (c .before .loop .inv)
+returns-2 : tie.Need-returns-2
+returns-2 c = search needs
 
 pub meet-spec : {M : Type 1} → statement M
 meet-spec =
-    tie.close
-    (tie.spec
-    Inv-loop
-    μ-loop
-    loop-holds
-    lowest-strain-requires
-    row-requires
-    give-requires
-    loop-less
-    loop-again
-    returns)
+    tie.close (tie.spec wrapping-sub-u64-requires join-requires join-requires-2 returns returns-2)
