@@ -1,6 +1,6 @@
 -- Of two masks that meet, either may be gone through strain by strain. The idea: the remainder of a pair does not ask which strain is named
 -- first, and two sums change places.
-use mathlib.Core.Path.{_≡_, sym, ap, _∙_, subst}
+use mathlib.Core.Path.{_≡_, sym, ap, _∙_, subst, subst₂}
 use mathlib.Core.Bool.{true, cond}
 use mathlib.Core.List.{List, [], _∷_}
 use Prim.Native.Nat.{ℕ, _+_, _*_, _≤_, _<_, _^_}
@@ -65,3 +65,7 @@ swap-met {D} {ds} {ways} {here} {there} {m} {old} {new} w = record {
         (λ i _. over-cong there (λ j. share par v i j) (λ j. share par v j i)
         (λ j _. ap (λ (z : ℤ). (bit par v i +ℤ bit par v j -ℤ pos 2 *ℤ bit par v m) *ℤ z) (by-ways-sym D ds ways i j)
         ∙ by-ring (bit par v i ∷ bit par v j ∷ bit par v m ∷ remainderByWays D ds ways j i ∷ []) (search quote depth 20) tt))
+
+-- which of them was gone through
+pub as-named : {D : ℕ} {ds : List ℕ} {ways : List ℤ} {here there each others m : ℕ} {old new : List ℤ} → each ≡ here → others ≡ there → Met D ds ways each others m old new → Met D ds ways here there m old new
+as-named {D} {ds} {ways} {here} {there} {each} {others} {m} {old} {new} e f w = subst₂ (λ (a b : ℕ). Met D ds ways a b m old new) e f w

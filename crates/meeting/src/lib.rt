@@ -183,9 +183,11 @@ pub fn meet(
     ensures { λ _. ⌜ Met d (now (distances .entry)) (now (ways .entry)) here there m (now (own .entry)) (now (own .exit)) ⌝ }
 {
     // where at most one strain stands there, one row over those that come
+    let mut each = here;
+    let mut others = there;
     if there & std::num::wrapping_sub_u64(there, 1) == 0 {
-        join(n, d, distances, ways, there, here, m, own);
-    } else {
-        join(n, d, distances, ways, here, there, m, own);
+        each = there;
+        others = here;
     }
+    join(n, d, distances, ways, each, others, m, own);
 }
