@@ -12,7 +12,7 @@ static size_t put(uint8_t *at, uint64_t x, int bytes) {
 }
 
 /* An accepted sheet: whole lengths, and their paths as distances. */
-static size_t write_sheet(uint32_t n, int shape, uint8_t *out) {
+static inline size_t write_sheet(uint32_t n, int shape, uint8_t *out) {
     uint8_t parents[128];
     uint32_t k = 2 * n - 3;
     uint64_t below[128] = {0};
@@ -56,7 +56,7 @@ static size_t write_sheet(uint32_t n, int shape, uint8_t *out) {
 
 /* The long sheet of the same lengths over a denominator of so many digits, highest first: D is a number whose digits are 1 and
  * then none zero, and each numerator that number times the edge's whole length. */
-static size_t write_long_sheet(uint32_t n, int shape, uint32_t levels, uint8_t *out) {
+static inline size_t write_long_sheet(uint32_t n, int shape, uint32_t levels, uint8_t *out) {
     enum { BASE = 1000000 };
     uint32_t k = 2 * n - 3, front = 12 + 2 + n * (n - 1) + 4 + k;
     write_sheet(n, shape, out); /* the lengths are written over */
