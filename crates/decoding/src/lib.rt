@@ -57,17 +57,26 @@ pub fn distances_into(
     }
 }
 
-// The numerators that start at `at`, then zeros.
-pub fn numerators(s: &[u8], at: usize, count: usize) -> [i64; Tree::MAX_EDGES]
+// Reads the numerators that start at `at` into a table of zeros; the zeros behind the last stay.
+pub fn numerators_into(s: &[u8], at: usize, count: usize, held: &mut [i64; Tree::MAX_EDGES])
     requires { ⌜ (count ≤ maxEdges) × (at + 8 * count ≤ length (now s)) ⌝ }
-    ensures { λ r. ⌜ r ≡ padded (pos 0) maxEdges count (λ k. twos (number 8 (now (s .entry)) (at + 8 * k))) ⌝ }
+    requires { ⌜ now held ≡ table maxEdges (λ _. pos 0) ⌝ }
+    ensures { λ _. ⌜ now (held .exit) ≡ padded (pos 0) maxEdges count (λ k. twos (number 8 (now (s .entry)) (at + 8 * k))) ⌝ }
 {
-    let mut held = tree::edge_zeros();
     let mut k = 0;
     while k < count {
         let x = endian::i64_at(s, at + 8 * k);
         held[k] = x;
         k += 1;
     }
+}
+
+// The same in a table of its own.
+pub fn numerators(s: &[u8], at: usize, count: usize) -> [i64; Tree::MAX_EDGES]
+    requires { ⌜ (count ≤ maxEdges) × (at + 8 * count ≤ length (now s)) ⌝ }
+    ensures { λ r. ⌜ r ≡ padded (pos 0) maxEdges count (λ k. twos (number 8 (now (s .entry)) (at + 8 * k))) ⌝ }
+{
+    let mut held = tree::edge_zeros();
+    numerators_into(s, at, count, &mut held);
     held
 }

@@ -25,8 +25,8 @@ padded-none : (f : ℕ → ℤ) → padded (pos 0) maxEdges 0 f ≡ table maxEdg
 unfolding tableFrom
 padded-none f = refl
 
-module _ (s : List ℕ) (x : Proposal) where
-  two-records : x .verdict ≡ Accepted → x .denominator ≡ 0 → x .edges ≡ 0 → x .numerators ≡ table maxEdges (λ _. pos 0) → Proposed 2 s x
+module _ (s : List ℕ) (ns : List ℤ) (x : Proposal) where
+  two-records : x .verdict ≡ Accepted → x .denominator ≡ 0 → x .edges ≡ 0 → ns ≡ table maxEdges (λ _. pos 0) → Proposed 2 s ns x
   two-records v d k n = record {
     answer = ap answerOf v;
     denominator = λ _. d;
@@ -34,7 +34,7 @@ module _ (s : List ℕ) (x : Proposal) where
     numerators = λ _. n ∙ sym (padded-none (numeratorAt s));
   }
 
-  pub without-lengths : (count : ℕ) → count ≡ 2 → x .verdict ≡ Accepted → x .denominator ≡ 0 → x .edges ≡ 0 → x .numerators ≡ table maxEdges (λ _. pos 0) → Proposed count s x
+  pub without-lengths : (count : ℕ) → count ≡ 2 → x .verdict ≡ Accepted → x .denominator ≡ 0 → x .edges ≡ 0 → ns ≡ table maxEdges (λ _. pos 0) → Proposed count s ns x
   without-lengths count e v d k n = rw e (two-records v d k n)
 
   module _ (at k edges : ℕ) (e : at ≡ startOf s 2) (f : k ≡ number 2 s (at + 6 + 4)) (g : edges ≡ verticesOf s - 1) where
@@ -46,7 +46,7 @@ module _ (s : List ℕ) (x : Proposal) where
       asked : (b : Bool) → eqb (edgesOf s) (verticesOf s - 1) ≡ b → test 11 (edgesDiffer count s) ≡ test 11 (not b)
       asked b q = ap₂ (λ (x y : Bool). test 11 (x && not y)) (lt-ltb 2 count three) q
 
-      pub other-count : (k ≡ edges → ⊥) → x .verdict ≡ Refused (record { reason = Edges; place = Nowhere }) → Proposed count s x
+      pub other-count : (k ≡ edges → ⊥) → x .verdict ≡ Refused (record { reason = Edges; place = Nowhere }) → Proposed count s ns x
       other-count h v =
           let none : (answerOf (x .verdict) ≡ pass → ⊥) = λ z. refuses 11 Nowhere (sym (ap answerOf v) ∙ z) in
           record {
@@ -57,7 +57,7 @@ module _ (s : List ℕ) (x : Proposal) where
           }
 
       pub with-lengths : k ≡ edges → x .verdict ≡ Accepted → x .denominator ≡ number 4 s (at + 6) → x .edges ≡ edges
-          → x .numerators ≡ padded (pos 0) maxEdges edges (λ i. twos (number 8 s (at + 6 + 6 + 8 * i))) → Proposed count s x
+          → ns ≡ padded (pos 0) maxEdges edges (λ i. twos (number 8 s (at + 6 + 6 + 8 * i))) → Proposed count s ns x
       with-lengths h v d m n =
           let there : edgesIn count s ≡ edgesOf s = rw (lt-ltb 2 count three) in
           record {

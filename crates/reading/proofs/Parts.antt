@@ -19,9 +19,10 @@ use Rattle.fit_theory.specs.Stands.{Shaped, Posted}
 use Rattle.records.specs.Form.{formTests}
 use Rattle.records.proofs.Decoding.{front-is, front-length, front-there}
 use Rattle.reading.specs.declared.Sheet.{Sheet}
+use Rattle.reading.specs.declared.Outline.{Outline}
 use Rattle.reading.specs.Holds.{strainsOf, distancesOf, verticesOf, parentsOf, denominatorOf, edgesOf, numeratorAt, numeratorsOf}
 use Rattle.reading.specs.Tests.{edgesDiffer, pairTests, readTests}
-use Rattle.reading.specs.Reads.{Held, SheetAnswer}
+use Rattle.reading.specs.Reads.{Held, together, OutlineAnswer, SheetAnswer}
 use Rattle.records.proofs.InTurn.{fewer-pass}
 use Rattle.records.proofs.Formed.{form-records}
 use Rattle.front.specs.declared.Front.{Front}
@@ -129,6 +130,10 @@ read-posted count s r three a e = pair-posted count s three (pair-passes count s
 
 pub read-lengths : (count : ℕ) (s : List ℕ) (r : Sheet) → 2 < count → SheetAnswer count s r → r .verdict ≡ Accepted → Lengths s r
 read-lengths count s r three a e = let z = accepted count s r a e in lengths count s three z r (a .held z)
+
+-- an outline that was accepted, with its tables, is a sheet
+pub outline-sheet : (count : ℕ) (s ds : List ℕ) (ns : List ℤ) (r : Outline) → OutlineAnswer count s ds ns r → r .verdict ≡ Accepted → SheetAnswer count s (together r ds ns)
+outline-sheet count s ds ns r a e = record { answer = a .answer; held = a .held; blank = λ n. absurd (n (sym (a .answer) ∙ ap answerOf e)) }
 
 -- ---- what is shown of the parts holds of what the records hold
 pub of-parts : {s : List ℕ} {r : Sheet} → Parts s r → (P : ℕ → List ℕ → List ℕ → Type 0)

@@ -12,6 +12,7 @@ use Rattle.exact.proofs.Decide.{by-cases}
 use Rattle.exact.proofs.Fill.{length-table}
 use Rattle.verdict.specs.declared.Place.the-variants.{Nowhere, Edge}
 use Rattle.verdict.specs.declared.Refusal.{Refusal}
+use Rattle.verdict.specs.declared.Verdict.{Verdict}
 use Rattle.verdict.specs.declared.Verdict.the-variants.{Refused}
 use Rattle.verdict.specs.Answer.{Answer, pass, fault, answerOf, refusalOf, test, atFirst, _orElse_}
 use Rattle.verdict.specs.declared.Rule.{Rule}
@@ -126,9 +127,9 @@ pub sheet-refused : (rule : Rule) (s : List ℕ) → (readTests 3 s ≡ pass →
 sheet-refused rule s n = lengths-refused 3 (omega arith) rule s n
 
 -- ---- by the reader's answer: a refusal is the whole answer
-pub refused-whole : (rule : Rule) (s : List ℕ) (r : Sheet) (q : Refusal) → SheetAnswer 3 s r → r .verdict ≡ Refused q → refusalOf q ≡ sheetTests rule s
-refused-whole rule s r q a e =
-    let told : refusalOf q ≡ readTests 3 s = sym (ap answerOf e) ∙ a .answer in
+pub refused-whole : (rule : Rule) (s : List ℕ) (v : Verdict) (q : Refusal) → answerOf v ≡ readTests 3 s → v ≡ Refused q → refusalOf q ≡ sheetTests rule s
+refused-whole rule s v q a e =
+    let told : refusalOf q ≡ readTests 3 s = sym (ap answerOf e) ∙ a in
     told ∙ sym (sheet-refused rule s (λ z. not-pass q (told ∙ z)))
 
 pub refused-two : (s : List ℕ) (r : Sheet) (q : Refusal) (x : Answer) → SheetAnswer 2 s r → r .verdict ≡ Refused q → refusalOf q ≡ furtherTests 2 s x

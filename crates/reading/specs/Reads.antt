@@ -2,7 +2,7 @@
 use mathlib.Core.Path.{_≡_}
 use mathlib.Core.List.{List}
 use Prim.Native.Nat.{ℕ}
-use lib.IntN.{pos}
+use lib.IntN.{ℤ, pos}
 use Rattle.exact.specs.Table.{table, padded}
 use Rattle.verdict.specs.Answer.{pass, answerOf, test}
 use Rattle.matrix.specs.Limits.{maxPairs}
@@ -10,16 +10,17 @@ use Rattle.matrix.specs.Place.{pairCount}
 use Rattle.tree_theory.specs.Limits.{maxEdges}
 use Rattle.records.specs.Form.{startOf}
 use Rattle.reading.specs.declared.Sheet.{Sheet}
+use Rattle.reading.specs.declared.Outline.{Outline}
 use Rattle.reading.specs.declared.Proposal.{Proposal}
 use Rattle.reading.specs.Holds.{strainsOf, distanceAt, parentsAt, denominatorIn, edgesIn, numeratorAt}
 use Rattle.reading.specs.Tests.{edgesDiffer, readTests}
 
--- the lengths of a sheet of so many records, or none where it has two: D, K, and the numerators, then zeros
-pub record Proposed (count : ℕ) (s : List ℕ) (r : Proposal) : Type 0 where
+-- the lengths of a sheet of so many records, or none where it has two: D, K, and the numerators in a lent table, then zeros
+pub record Proposed (count : ℕ) (s : List ℕ) (ns : List ℤ) (r : Proposal) : Type 0 where
   pub answer : answerOf (r .verdict) ≡ test 11 (edgesDiffer count s)
   pub denominator : answerOf (r .verdict) ≡ pass → r .denominator ≡ denominatorIn count s
   pub edges : answerOf (r .verdict) ≡ pass → r .edges ≡ edgesIn count s
-  pub numerators : answerOf (r .verdict) ≡ pass → r .numerators ≡ padded (pos 0) maxEdges (edgesIn count s) (numeratorAt s)
+  pub numerators : answerOf (r .verdict) ≡ pass → ns ≡ padded (pos 0) maxEdges (edgesIn count s) (numeratorAt s)
 
 -- N and the distances, then zeros; where the parents start and end among the bytes; the lengths
 pub record Held (count : ℕ) (s : List ℕ) (r : Sheet) : Type 0 where
@@ -32,6 +33,35 @@ pub record Held (count : ℕ) (s : List ℕ) (r : Sheet) : Type 0 where
   pub edges : r .edges ≡ edgesIn count s
   pub numerators : r .numerators ≡ padded (pos 0) maxEdges (edgesIn count s) (numeratorAt s)
 
+-- an outline and the two tables together
+abbrev pub together : Outline → List ℕ → List ℤ → Sheet
+together r ds ns = record {
+  verdict = r .verdict;
+  strains = r .strains;
+  pairs = r .pairs;
+  distances = ds;
+  parents = r .parents;
+  end = r .end;
+  denominator = r .denominator;
+  edges = r .edges;
+  numerators = ns;
+}
+
+-- zeros everywhere in an outline
+pub record Unread (r : Outline) : Type 0 where
+  pub strains : r .strains ≡ 0
+  pub pairs : r .pairs ≡ 0
+  pub parents : r .parents ≡ 0
+  pub end : r .end ≡ 0
+  pub denominator : r .denominator ≡ 0
+  pub edges : r .edges ≡ 0
+
+-- the whole answer, and what the two lent tables are left with
+pub record OutlineAnswer (count : ℕ) (s ds : List ℕ) (ns : List ℤ) (r : Outline) : Type 0 where
+  pub answer : answerOf (r .verdict) ≡ readTests count s
+  pub held : readTests count s ≡ pass → Held count s (together r ds ns)
+  pub unread : (readTests count s ≡ pass → ⊥) → Unread r
+
 -- zeros everywhere
 pub record Blank (r : Sheet) : Type 0 where
   pub strains : r .strains ≡ 0
@@ -43,7 +73,7 @@ pub record Blank (r : Sheet) : Type 0 where
   pub edges : r .edges ≡ 0
   pub numerators : r .numerators ≡ table maxEdges (λ _. pos 0)
 
--- the whole answer
+-- the whole answer, with its tables
 pub record SheetAnswer (count : ℕ) (s : List ℕ) (r : Sheet) : Type 0 where
   pub answer : answerOf (r .verdict) ≡ readTests count s
   pub held : readTests count s ≡ pass → Held count s r

@@ -22,7 +22,9 @@ pub struct SheetFit {
 pub fn sheet_judge(rule: Rule, s: &[u8]) -> Verdict
     ensures { λ r. ⌜ answerOf r ≡ sheetTests rule (now (s .entry)) ⌝ }
 {
-    let sheet = reading::read(s, 3);
+    let mut distances = matrix::no_distances();
+    let mut numerators = tree::edge_zeros();
+    let sheet = reading::read_into(s, 3, &mut distances, &mut numerators);
     let of_reader = sheet.verdict;
     if let Verdict::Refused(refusal) = of_reader {
         return Verdict::Refused(refusal);
@@ -31,8 +33,6 @@ pub fn sheet_judge(rule: Rule, s: &[u8]) -> Verdict
     let parents = sheet.parents;
     let end = sheet.end;
     let edges = sheet.edges;
-    let distances = sheet.distances;
-    let numerators = sheet.numerators;
     judging::judge_proposal(
         rule,
         sheet.strains,

@@ -23,11 +23,8 @@ ends : (c : tie.Else1)
     (at + 12 + 8 * number 2 (bytes c) (at + 6 + 4) ≤ length (bytes c)) × (length (bytes c) ≤ maxNamed)
 ends c = lengths-end (c .before .before .args .count) (bytes c) (c .before .before .pre .0 .2) (omega arith) _ (c .before .before .pre .0 .3)
 
-edge-zeros-requires : tie.Need-edge-zeros-requires
-edge-zeros-requires c κs = search needs
-
 returns : tie.Need-returns
-returns c = without-lengths _ _ _ (c .before .if1 .taken) refl refl refl (c .edge-zeros .ensures)
+returns c = without-lengths _ _ _ _ (c .if1 .taken) refl refl refl (c .before .before .pre .1 .1)
 
 add-body : tie.Need-add-body
 add-body c = record { fits = omega (arith, ends c) }
@@ -41,41 +38,36 @@ u16-at-requires c κs = omega (arith, ends c)
 cast-if2 : tie.Need-cast-if2
 cast-if2 c = search needs
 
-edge-zeros-requires-2 : tie.Need-edge-zeros-requires-2
-edge-zeros-requires-2 c κs = search needs
-
 returns-2 : tie.Need-returns-2
-returns-2 c = let read = c .before .before in
-    other-count _ _ _ _ _ (read .before .before .before .pre .0 .3) (read .u16-at .ensures) (read .before .before .before .pre .1 .0) _ (three (read .before)) (c .before .if2 .taken) refl
+returns-2 c = let read = c .before in
+    other-count _ _ _ _ _ _ (read .before .before .before .pre .0 .3) (read .u16-at .ensures) (read .before .before .before .pre .1 .0 .0) _ (three (read .before)) (c .if2 .taken) refl
+
+add-numerators-into : tie.Need-add-numerators-into
+add-numerators-into c = record { fits = omega (arith, ends (c .before .before)) }
+
+numerators-into-requires : tie.Need-numerators-into-requires
+numerators-into-requires c κs = let read = c .before .before in
+    let k : read .before .before .before .args .edges ≡ number 2 (bytes (read .before)) (read .before .before .before .args .at + 6 + 4) = sym (c .before .if2 .left) ∙ read .u16-at .ensures in
+    ((read .before .before .before .pre .1 .0 .1, omega (arith, ends (read .before))), read .before .before .before .pre .1 .1)
 
 u32-at-requires : tie.Need-u32-at-requires
-u32-at-requires c κs = omega (arith, ends (c .before .before))
-
-add-numerators : tie.Need-add-numerators
-add-numerators c = record { fits = omega (arith, ends (c .before .before .before)) }
-
-numerators-requires : tie.Need-numerators-requires
-numerators-requires c κs = let read = c .before .before in
-    let k : read .before .before .before .args .edges ≡ number 2 (bytes (read .before)) (read .before .before .before .args .at + 6 + 4) = sym (c .before .if2 .left) ∙ read .u16-at .ensures in
-    (read .before .before .before .pre .1 .1, omega (arith, ends (read .before)))
+u32-at-requires c κs = omega (arith, ends (c .before .before .before .before))
 
 returns-3 : tie.Need-returns-3
-returns-3 c = let read = c .before .before .before in
-    with-lengths _ _ _ _ _ (read .before .before .before .pre .0 .3) (read .u16-at .ensures) (read .before .before .before .pre .1 .0) _ (three (read .before)) (c .before .before .if2 .left) refl (c .before .u32-at .ensures) refl (c .numerators .ensures)
+returns-3 c = let read = c .before .before .before .before in
+    with-lengths _ _ _ _ _ _ (read .before .before .before .pre .0 .3) (read .u16-at .ensures) (read .before .before .before .pre .1 .0 .0) _ (three (read .before)) (c .before .before .before .if2 .left) refl (c .u32-at .ensures) refl (c .before .numerators-into .ensures)
 
 pub proposed-lengths-spec : {M : Type 1} → statement M
 proposed-lengths-spec =
     tie.close
     (tie.spec
-    edge-zeros-requires
     returns
     add-body
     add-u16-at
     u16-at-requires
     cast-if2
-    edge-zeros-requires-2
     returns-2
+    add-numerators-into
+    numerators-into-requires
     u32-at-requires
-    add-numerators
-    numerators-requires
     returns-3)

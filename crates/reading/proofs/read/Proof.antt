@@ -1,23 +1,21 @@
--- The form's refusal, or what the records hold.
-use mathlib.Core.Path.{_≡_, sym, ap, _∙_}
-use mathlib.Core.List.{List}
-use Prim.Native.Nat.{ℕ}
-use native.Mathlib.Omega.{arith}
-use lib.ListN.{getD}
-use Rattle.verdict.specs.Answer.{pass, answerOf}
-use Rattle.records.specs.Form.{formTests}
-use Rattle.records.specs.Laid.{maxStarts}
-use Rattle.records.proofs.Decoding.{padded-before}
-use Rattle.reading.proofs.Answered.{form-refused}
+-- The outline's refusal, or the outline with its tables.
+use mathlib.Core.Path.{refl}
 use borrow.Author.Needs.{needs}
+use Rattle.reading.proofs.Answered.{refused-sheet, held-sheet}
 use Rattle.reading.proofs.read.Statement.{statement}
 use Rattle.reading.proofs.read.Tie as tie
 
-records-requires : tie.Need-records-requires
-records-requires c κs = search needs
+no-distances-requires : tie.Need-no-distances-requires
+no-distances-requires c κs = search needs
 
-enum-known-of-form : tie.Need-enum-known-of-form
-enum-known-of-form c = search needs
+edge-zeros-requires : tie.Need-edge-zeros-requires
+edge-zeros-requires c κs = search needs
+
+read-into-requires : tie.Need-read-into-requires
+read-into-requires c κs = search needs
+
+enum-known-found : tie.Need-enum-known-found
+enum-known-found c = search needs
 
 refused-requires : tie.Need-refused-requires
 refused-requires c κs = search needs
@@ -25,40 +23,21 @@ refused-requires c κs = search needs
 enum-told : tie.Need-enum-told
 enum-told c = search needs
 
-element-copy-out-held : tie.Need-element-copy-out-held
-element-copy-out-held c = search needs
-
-element-copy-out-held-2 : tie.Need-element-copy-out-held-2
-element-copy-out-held-2 c = search needs
-
-held-requires : tie.Need-held-requires
-held-requires c κs = let laid = c .before .before .before .before in
-    let begun = laid .before .before in
-    let z : formTests (begun .args .count) (begun .args .s .now) ≡ pass = sym (laid .records .ensures .answer) ∙ ap answerOf (c .before .before .enum-told .given .1) in
-    let at = laid .records .ensures .starts z in (
-      begun .pre .0,
-      begun .pre .1,
-      z,
-      ap (λ (l : List ℕ). getD l 1 0) at ∙ padded-before 0 maxStarts _ _ 1 (omega arith),
-      ap (λ (l : List ℕ). getD l 2 0) at ∙ padded-before 0 maxStarts _ _ 2 (omega arith),
-    )
-
 returns : tie.Need-returns
-returns c = form-refused _ _ _ _ _ (c .before .before .before .before .records .ensures .answer) (c .before .before .of-form .given .1) (c .refused .ensures)
+returns c = let r = c .before .before .before .before in refused-sheet _ _ _ _ _ (r .read-into .ensures) _ _ (c .before .before .found .given .1) (c .refused .ensures)
 
 returns-2 : tie.Need-returns-2
-returns-2 c = search needs
+returns-2 c = held-sheet _ _ _ _ _ (c .before .before .read-into .ensures) _ (c .enum-told .given .1) refl
 
 pub read-spec : {M : Type 1} → statement M
 read-spec =
     tie.close
     (tie.spec
-    records-requires
-    enum-known-of-form
+    no-distances-requires
+    edge-zeros-requires
+    read-into-requires
+    enum-known-found
     refused-requires
     enum-told
-    element-copy-out-held
-    element-copy-out-held-2
-    held-requires
     returns
     returns-2)

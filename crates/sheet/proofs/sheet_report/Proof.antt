@@ -28,7 +28,7 @@ unfitted-requires c κs = search needs
 
 returns : tie.Need-returns
 returns c = let r = c .before .before .before .before in
-    refused-sheet _ _ (c .unfitted .result) (c .before .before .of-reader .given .0 .0) (c .unfitted .ensures .0) (c .unfitted .ensures .1) (refused-whole (r .before .before .args .rule) _ (r .read .result) (c .before .before .of-reader .given .0 .0) (r .read .ensures) (c .before .before .of-reader .given .1))
+    refused-sheet _ _ (c .unfitted .result) (c .before .before .of-reader .given .0 .0) (c .unfitted .ensures .0) (c .unfitted .ensures .1) (refused-whole (r .before .before .args .rule) (r .before .before .args .s .now) _ (c .before .before .of-reader .given .0 .0) (r .read .ensures .answer) (c .before .before .of-reader .given .1))
 
 enum-told : tie.Need-enum-told
 enum-told c = search needs

@@ -8,8 +8,8 @@ use Rattle.records.proofs.Decoding.{Decoding, decode-start, decode-turn, decode
 use mathlib.Core.Path.{_∙_}
 use lib.IntN.{pos}
 use mir.Facts.{toZ-ofZ}
-use Rattle.decoding.proofs.numerators.Statement.{statement}
-use Rattle.decoding.proofs.numerators.Tie as tie
+use Rattle.decoding.proofs.numerators_into.Statement.{statement}
+use Rattle.decoding.proofs.numerators_into.Tie as tie
 
 abbrev Inv-loop : tie.InvT-loop
 Inv-loop s at count held₀ k₀ held k = Decoding (pos 0) maxEdges count (λ i. twos (number 8 s (at + 8 * i))) k held
@@ -17,11 +17,8 @@ Inv-loop s at count held₀ k₀ held k = Decoding (pos 0) maxEdges count (λ i.
 abbrev μ-loop : tie.MeasureT-loop
 μ-loop s at count held₀ k₀ held k = count - k
 
-edge-zeros-requires : tie.Need-edge-zeros-requires Inv-loop μ-loop
-edge-zeros-requires c κs = search needs
-
 loop-holds : tie.Need-loop-holds Inv-loop μ-loop
-loop-holds c = decode-start (pos 0) maxEdges _ _ _ (c .edge-zeros .ensures)
+loop-holds c = decode-start (pos 0) maxEdges _ _ _ (c .before .pre .1)
 
 mul-i64-at : tie.Need-mul-i64-at Inv-loop μ-loop
 mul-i64-at c = search needs
@@ -32,11 +29,11 @@ add-i64-at c = search needs
 i64-at-requires : tie.Need-i64-at-requires Inv-loop μ-loop
 i64-at-requires c κs = search needs
 
-mul-held : tie.Need-mul-held Inv-loop μ-loop
-mul-held c = search needs
+mul-x : tie.Need-mul-x Inv-loop μ-loop
+mul-x c = search needs
 
-array-set-from-held : tie.Need-array-set-from-held Inv-loop μ-loop
-array-set-from-held c = search needs
+element-set-from-x : tie.Need-element-set-from-x Inv-loop μ-loop
+element-set-from-x c = search needs
 
 add-k : tie.Need-add-k Inv-loop μ-loop
 add-k c = search needs
@@ -50,19 +47,18 @@ loop-again c = decode-turn (pos 0) maxEdges _ _ (c .before .before .loop .k) _ _
 returns : tie.Need-returns Inv-loop μ-loop
 returns c = decode-end (pos 0) maxEdges _ _ (c .before .loop .k) _ (omega arith) (omega arith) (c .before .loop .inv)
 
-pub numerators-spec : {M : Type 1} → statement M
-numerators-spec =
+pub numerators-into-spec : {M : Type 1} → statement M
+numerators-into-spec =
     tie.close
     (tie.spec
     Inv-loop
     μ-loop
-    edge-zeros-requires
     loop-holds
     mul-i64-at
     add-i64-at
     i64-at-requires
-    mul-held
-    array-set-from-held
+    mul-x
+    element-set-from-x
     add-k
     loop-less
     loop-again
