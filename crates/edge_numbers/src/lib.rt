@@ -1,0 +1,42 @@
+// The numbers of a fit edge by edge, where no pair is missing: for each edge its sum of remainders, and of all pairs F and the sums of
+// squares. Each is had from what a table has for the pairs that an edge parts (splits) and from their paths (path_sums), so that no
+// pair is looked at by itself.
+ghost use mathlib.Core.Path.{_≡_};
+ghost use Prim.Native.Nat.{_*_, _%_, _^_, _≤_};
+ghost use lib.IntN.{pos, _+ℤ_, _*ℤ_};
+ghost use lib.ListN.{length};
+ghost use Rattle.exact.specs.Sum.{sum};
+ghost use Rattle.exact.specs.Table.{entryOf};
+ghost use Rattle.exact.specs.Modulo.{Modulo};
+
+// Half a word: what a digit of 32 bits is below.
+const HALF: u64 = 4_294_967_296;
+
+// The product of two numbers, modulo 2^64: by digits of 32 bits, whose products fit.
+fn product(x: u64, y: u64) -> u64
+    ensures { λ r. ⌜ r ≡ x * y % 2 ^ 64 ⌝ }
+{
+    let low = x % HALF;
+    let high = x / HALF;
+    let lower = y % HALF;
+    let higher = y / HALF;
+    let cross = std::num::wrapping_add_u64(high * lower, low * higher);
+    std::num::wrapping_add_u64(low * lower, cross % HALF * HALF)
+}
+
+// The accumulator acc with the product of a and b added, modulo 2^64.
+fn gather(acc: u64, a: i64, b: i64) -> u64
+    ensures { λ r. ⌜ Modulo r (pos acc +ℤ a *ℤ b) ⌝ }
+{
+    let size = product(arithmetic::magnitude(a), arithmetic::magnitude(b));
+    if a >= 0 {
+        if b >= 0 {
+            return std::num::wrapping_add_u64(acc, size);
+        }
+        return std::num::wrapping_sub_u64(acc, size);
+    }
+    if b >= 0 {
+        return std::num::wrapping_sub_u64(acc, size);
+    }
+    std::num::wrapping_add_u64(acc, size)
+}
