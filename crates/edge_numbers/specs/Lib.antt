@@ -1,1 +1,1 @@
--- no definitions of its own yet
+pub mod Squares

@@ -1,13 +1,17 @@
 // The numbers of a fit edge by edge, where no pair is missing: for each edge its sum of remainders, and of all pairs F and the sums of
 // squares. Each is had from what a table has for the pairs that an edge parts (splits) and from their paths (path_sums), so that no
 // pair is looked at by itself.
+use tree::Tree;
 ghost use mathlib.Core.Path.{_≡_};
-ghost use Prim.Native.Nat.{_*_, _%_, _^_, _≤_};
+ghost use Prim.Native.Nat.{ℕ, _*_, _%_, _^_, _≤_};
 ghost use lib.IntN.{pos, _+ℤ_, _*ℤ_};
-ghost use lib.ListN.{length};
+ghost use lib.ListN.{length, getD};
 ghost use Rattle.exact.specs.Sum.{sum};
 ghost use Rattle.exact.specs.Table.{entryOf};
 ghost use Rattle.exact.specs.Modulo.{Modulo};
+ghost use Rattle.matrix.specs.Limits.{maxDistance, maxPairs};
+ghost use Rattle.tree_theory.specs.Limits.{maxEdges};
+ghost use Rattle.edge_numbers.specs.Squares.{squareAt};
 
 // Half a word: what a digit of 32 bits is below.
 const HALF: u64 = 4_294_967_296;
@@ -39,4 +43,34 @@ fn gather(acc: u64, a: i64, b: i64) -> u64
         return std::num::wrapping_sub_u64(acc, size);
     }
     std::num::wrapping_add_u64(acc, size)
+}
+
+// The accumulator acc with the products of the entries of two tables added, an edge a turn, modulo 2^64.
+fn weighted(acc: u64, edges: usize, x: &[i64], y: &[i64; Tree::MAX_EDGES]) -> u64
+    requires { ⌜ (edges ≤ length (now x)) × (edges ≤ maxEdges) ⌝ }
+    ensures { λ r. ⌜ Modulo r (pos acc +ℤ sum edges (λ v. entryOf (now (x .entry)) v *ℤ entryOf (now (y .entry)) v)) ⌝ }
+{
+    let mut held = acc;
+    let mut v = 0;
+    while v < edges {
+        held = gather(held, x[v], y[v]);
+        v += 1;
+    }
+    held
+}
+
+// The squares of the first numbers of a table, added up.
+fn squares(distances: &[u16], count: usize) -> u64
+    requires { ⌜ (count ≤ length (now distances)) × (count ≤ maxPairs) ⌝ }
+    requires { ⌜ ((k : ℕ) → getD (now distances) k 0 ≤ maxDistance) ⌝ }
+    ensures { λ r. ⌜ pos r ≡ sum count (λ k. squareAt (now (distances .entry)) k) ⌝ }
+{
+    let mut sum: u64 = 0;
+    let mut k = 0;
+    while k < count {
+        let far = distances[k] as u64;
+        sum = sum + far * far;
+        k += 1;
+    }
+    sum
 }
