@@ -12,7 +12,7 @@ use lib.Dec.{eqb}
 use lib.IntN.{ℤ, pos, natAbs, _+ℤ_, _*ℤ_, +ℤ-idr, zero-*ℤ}
 use lib.ListN.{length, set, length-set}
 use lib.Seq.{getD-set-same, getD-set-other}
-use Rattle.exact.specs.Sum.{sum, ind}
+use Rattle.exact.specs.Sum.{ind}
 use Rattle.exact.specs.Table.{table, entryOf}
 use Rattle.exact.proofs.Decide.{by-cases, eq-yes, eq-no}
 use Rattle.exact.proofs.Fill.{length-table, getD-table-const}
@@ -22,7 +22,7 @@ use Rattle.exact.proofs.Sign.{natAbs-add, natAbs-mul}
 use Rattle.exact.proofs.Sum.{ind-yes, ind-no}
 use Rattle.exact.proofs.Sweep.{sum-abs, ind-one, chosen-sum-abs}
 use Rattle.tree_theory.specs.Limits.{maxEdges, maxVertices}
-use Rattle.tree_theory.specs.Chain.{parentOf, lift, kid}
+use Rattle.tree_theory.specs.Chain.{parentOf, lift}
 use Rattle.tree_theory.proofs.Chains.{along}
 use Rattle.paths.specs.Standing.{maxThousandths}
 use Rattle.paths.proofs.Bounds.{farthestPath, path-near}

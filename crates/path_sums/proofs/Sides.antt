@@ -2,22 +2,21 @@
 -- not below it. So the paths over the edge are the ways up, each once for every strain beyond, and the ways on, each once for every strain below.
 -- `come-..`, `come-way-..`: what stands at a vertex when the turn of another comes; `out-root`, `out-step`: the paths from a vertex to all
 -- strains, by those from its parent; `over`: the paths over an edge by the two sums at its lower end.
-use mathlib.Core.Path.{_≡_, refl, sym, ap, ap₂, _∙_, subst}
-use mathlib.Core.Bool.{Bool, true, false, not}
+use mathlib.Core.Path.{_≡_, refl, sym, ap, ap₂, _∙_}
+use mathlib.Core.Bool.{not}
 use mathlib.Core.List.{[], _∷_}
 use Prim.Native.Nat.{ℕ, suc, _≤_, _<_}
 use native.Mathlib.Decide.{ℕ-discrete}
 use native.Mathlib.Omega.{arith}
 use lib.Dec.{eqb}
-use lib.IntN.{ℤ, pos, _+ℤ_, _-ℤ_, _*ℤ_, +ℤ-idl, *ℤ-zero, zero-*ℤ}
-use Rattle.exact.specs.Sum.{sum, pairs, ind}
-use Rattle.exact.specs.LeastSquares.{path}
-use Rattle.exact.proofs.Decide.{by-cases, eq-yes, eq-no}
+use lib.IntN.{ℤ, pos, _+ℤ_, _-ℤ_, _*ℤ_, zero-*ℤ}
+use Rattle.exact.specs.Sum.{sum, ind}
+use Rattle.exact.proofs.Decide.{by-cases, eq-no}
 use Rattle.exact.proofs.Quote.{by-ring, quote, eq-by, z-sub, z*}
 use Rattle.exact.proofs.Ring.{*ℤ-oneˡ, *ℤ-oneʳ}
 use Rattle.exact.proofs.Square.{square}
 use Rattle.exact.proofs.Sum.{sum-cong, sum-+, sum-*, sum-*ʳ, sum-at, sum-zero, sum-const, pairs-cong, ind-yes, ind-no, ind-not, ind-sq}
-use Rattle.tree_theory.specs.Chain.{below, lift, kid, partsPair}
+use Rattle.tree_theory.specs.Chain.{below, lift, kid}
 use Rattle.tree_theory.specs.Allowed.{Allowed}
 use Rattle.tree_theory.proofs.Chains.{Below, bit, along, one-more, parts-ind, along-sym, along-self, below?, below-yes, below-no, below-self, below-root}
 use Rattle.tree_theory.proofs.Directions.{through, edge-alone, onward}

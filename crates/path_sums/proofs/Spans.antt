@@ -3,7 +3,6 @@
 use mathlib.Core.Path.{_≡_, refl, sym, ap, ap₂, _∙_, subst}
 use mathlib.Core.Bool.{Bool, true, false, not, cond}
 use mathlib.Core.List.{List, [], _∷_}
-use mathlib.Core.Logic.{_≢_}
 use Prim.Native.Nat.{ℕ, zero, suc, _+_, _*_, _≤_, _<_, _^_}
 use native.Mathlib.Nat.{mul-le-mul}
 use native.Mathlib.Omega.{arith}
@@ -13,7 +12,6 @@ use Rattle.exact.specs.Order.{_≤ᶻ_, _<ᶻ_, Within}
 use Rattle.exact.specs.Sum.{sum, ind}
 use Rattle.exact.specs.LeastSquares.{path, hops}
 use Rattle.exact.specs.Table.{entryOf}
-use Rattle.exact.proofs.Decide.{by-cases}
 use Rattle.exact.proofs.Linear.{d-atom, lin, le→, →le, lt→, eq→}
 use Rattle.exact.proofs.Order.{nn-sq, nn-pos, le-by, *-mono, ≤-pos}
 use Rattle.exact.proofs.Quote.{by-ring, quote}
@@ -31,7 +29,7 @@ use Rattle.tree_theory.proofs.Directions.{spread}
 use Rattle.tree_theory.proofs.Strains.{leaf}
 use Rattle.paths.specs.Standing.{maxThousandths, Small}
 use Rattle.path_sums.specs.Sums.{pathSum, crowd, waysUp, waysOut}
-use Rattle.path_sums.proofs.Sides.{by-way, off, onWays, off-sum, on-is, pairs-off}
+use Rattle.path_sums.proofs.Sides.{by-way, off, off-sum, on-is, pairs-off}
 
 -- as far as 63 edges go
 abbrev pub span : ℕ
@@ -99,10 +97,11 @@ module _ {N K : ℕ} {par : ℕ → ℕ} (ok : Allowed N K par) {x : List ℤ} (
     two-parts i j b n = steps-are i j ∙ by-way N K par ok X v edge (λ _. pos 1) i j b n ∙ sym (ap₂ _+ℤ_ (steps-are i v) (steps-are v j))
 
     part-few : (a b c : ℤ) (n : ℕ) → c ≡ a +ℤ b → c <ᶻ pos n → n ≤ 64 → pos 0 ≤ᶻ a → pos 0 ≤ᶻ b → (a ≤ᶻ pos 63) × (b ≤ᶻ pos 63) × (c ≤ᶻ pos 63)
-    part-few a b c n e h k p q = let A = d-atom a in let B = d-atom b in let C = d-atom c in
-        (→le (search lin) (omega (arith, eq→ (search lin) e, lt→ (search lin) h, le→ (search lin) p, le→ (search lin) q)),
-        →le (search lin) (omega (arith, eq→ (search lin) e, lt→ (search lin) h, le→ (search lin) p, le→ (search lin) q)),
-        →le (search lin) (omega (arith, eq→ (search lin) e, lt→ (search lin) h, le→ (search lin) p, le→ (search lin) q)))
+    part-few a b c n e h k p q = let A = d-atom a in let B = d-atom b in let C = d-atom c in (
+      →le (search lin) (omega (arith, eq→ (search lin) e, lt→ (search lin) h, le→ (search lin) p, le→ (search lin) q)),
+      →le (search lin) (omega (arith, eq→ (search lin) e, lt→ (search lin) h, le→ (search lin) p, le→ (search lin) q)),
+      →le (search lin) (omega (arith, eq→ (search lin) e, lt→ (search lin) h, le→ (search lin) p, le→ (search lin) q)),
+    )
 
     parts-few : (i j : ℕ) → i < N → j < N → Below par i v → (Below par j v → ⊥) → (steps i v ≤ᶻ pos 63) × (steps v j ≤ᶻ pos 63) × (steps i j ≤ᶻ pos 63)
     parts-few i j hi hj b n = part-few (steps i v) (steps v j) (steps i j) N (two-parts i j b n) (whole-few i j hi hj b n) (ok .few) (steps-nn i v) (steps-nn v j)
@@ -176,5 +175,9 @@ module _ {N K : ℕ} {par : ℕ → ℕ} (ok : Allowed N K par) {x : List ℤ} (
     second-near = omega (arith, natAbs-mul (crowd N par v) (waysOut N K par X v -ℤ waysUp N K par X v), mul-le-mul {n₂ = in-count} {m₂ = out-count * span} (≤-of (ap natAbs crowd-count)) on-abs, few-pairs)
 
     pub sum-near : natAbs (pathSum N K par X v) < 2 ^ 63
-    sum-near = omega (arith, ap natAbs (pairs-off N K par ok X v edge),
-        taken-abs N (out-count * span) (λ j. below par j v) (λ j. sum N (λ i. off N K par ok X v edge i *ℤ along par K X i j)) (λ j l e. row-abs j l (below-true par j v e)), few-pairs)
+    sum-near = omega (
+      arith,
+      ap natAbs (pairs-off N K par ok X v edge),
+      taken-abs N (out-count * span) (λ j. below par j v) (λ j. sum N (λ i. off N K par ok X v edge i *ℤ along par K X i j)) (λ j l e. row-abs j l (below-true par j v e)),
+      few-pairs,
+    )

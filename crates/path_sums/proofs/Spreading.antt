@@ -1,6 +1,6 @@
 -- The pass down. The idea: from the root on a vertex has the paths to all strains, by those of its parent, and with them and what came up its edge
 -- has the paths of the pairs that it parts.
-use mathlib.Core.Path.{_≡_, refl, sym, ap, ap₂, _∙_}
+use mathlib.Core.Path.{_≡_, sym, ap, ap₂, _∙_}
 use mathlib.Core.List.{List}
 use mathlib.Core.Logic.{_≢_}
 use Prim.Native.Nat.{ℕ, _+_, _-_, _*_, _≤_, _<_, _^_}

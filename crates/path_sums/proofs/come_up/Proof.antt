@@ -1,5 +1,5 @@
 -- Each step of the sum is the number that it stands for.
-use mathlib.Core.Path.{_≡_, ap₂, _∙_}
+use mathlib.Core.Path.{_≡_, ap₂}
 use lib.IntN.{_+ℤ_, _*ℤ_}
 use mir.Syntax.{w64}
 use mir.Val.{toZ, ofZ}

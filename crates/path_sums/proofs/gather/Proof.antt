@@ -16,9 +16,6 @@ use Rattle.path_sums.proofs.Worked.{fits-as, back-as, as-is}
 use Rattle.path_sums.proofs.Gathering.{GatherAt, gather-start, gather-end, gather-turn, parent-low, size-near, size-there-near, way-near, way-there-near, step-near, both-near, steps-near, all-near}
 use Rattle.path_sums.proofs.gather.Statement.{statement}
 use Rattle.path_sums.proofs.gather.Tie as tie
-use Rattle.path_sums.proofs.gather.Reads as reads
-use Rattle.path_sums.proofs.gather.Lts as lts
-use Rattle.path_sums.proofs.come_up.Reads as come-up-reads
 
 abbrev Inv-loop : tie.InvT-loop
 Inv-loop n edges parents x sizes₀ ways₀ v₀ sizes ways v = GatherAt n edges (parentOf parents) (entryOf x) v sizes ways

@@ -1,9 +1,8 @@
 -- The numbers that a turn reads are what stands there, and what it writes is what its vertex and its edge are to have.
 use mathlib.Core.Path.{_≡_, ap, ap₂, _∙_}
-use mathlib.Core.List.{List}
-use Prim.Native.Nat.{ℕ, _-_, _≤_, _<_, _^_}
+use Prim.Native.Nat.{ℕ, _-_, _≤_, _<_}
 use native.Mathlib.Omega.{arith}
-use lib.IntN.{ℤ, pos, natAbs, _+ℤ_, _-ℤ_, _*ℤ_}
+use lib.IntN.{ℤ, pos, _+ℤ_, _-ℤ_, _*ℤ_}
 use mir.Syntax.{w64}
 use mir.Val.{toZ, ofZ}
 use borrow.Author.Needs.{needs}
@@ -12,19 +11,13 @@ use Rattle.exact.proofs.Sign.{back, back-pos, fits-abs}
 use Rattle.tree_theory.specs.Limits.{maxEdges}
 use Rattle.tree_theory.specs.Chain.{parentOf}
 use Rattle.inner_paths.specs.Between.{Lengthened}
-use Rattle.path_sums.specs.Sums.{waysOut, Gathered}
+use Rattle.path_sums.specs.Sums.{pathSum, waysOut, Gathered}
 use Rattle.path_sums.proofs.Worked.{as-is, back-as}
 use Rattle.path_sums.proofs.Gathering.{few}
 use Rattle.path_sums.proofs.Spreading.{SpreadAt}
 use Rattle.path_sums.proofs.Spreading as turn
 use Rattle.path_sums.proofs.spread.Statement.{statement}
 use Rattle.path_sums.proofs.spread.Tie as tie
-use Rattle.path_sums.proofs.spread.Reads as reads
-use Rattle.path_sums.proofs.spread.Lts as lts
-use Rattle.path_sums.proofs.across.Reads as across-reads
-use Rattle.path_sums.proofs.one_down.Reads as one-down-reads
-use Rattle.path_sums.proofs.zeros.Reads as zeros-reads
-use Rattle.tree.proofs.edge_zeros.Reads as edge-zeros-reads
 
 abbrev Inv-loop : tie.InvT-loop
 Inv-loop n edges parents x sizes ways all sums₀ far₀ w₀ sums far w = SpreadAt n edges (parentOf parents) (entryOf x) w sums far
@@ -126,6 +119,12 @@ module _ (l : tie.At-loop Inv-loop μ-loop) (more : 0 < l .loop .w) where
       second : sizeIn *ℤ (toZ w64 (ofZ w64 f) -ℤ wayIn) ≡ size *ℤ (f -ℤ way)
       second = ap₂ _*ℤ_ size-in on
 
+      far-is : toZ w64 (ofZ w64 f) ≡ out
+      far-is = far-in ∙ e
+
+      sum-is : (r : ℤ) → r ≡ (allIn -ℤ sizeIn) *ℤ wayIn +ℤ sizeIn *ℤ (toZ w64 (ofZ w64 f) -ℤ wayIn) → toZ w64 (ofZ w64 r) ≡ pathSum (start .args .n) (start .args .edges) (parentOf (start .args .parents .now)) (entryOf (start .args .x .now)) u
+      sum-is r h = back-as (h ∙ ap₂ _+ℤ_ first second) (turn.sum-near L g more (l .loop .inv) f e) ∙ turn.across-is L g more (l .loop .inv) f e
+
 cast-all : tie.Need-cast-all Inv-loop μ-loop
 cast-all c = fits-abs (pos (c .before .args .n)) (omega (arith, c .before .pre .0 .allowed .few))
 
@@ -178,11 +177,12 @@ shared-slice-copy-out-one-down : tie.Need-shared-slice-copy-out-one-down Inv-loo
 shared-slice-copy-out-one-down c = omega (arith, low-in (c .before .before .before .before) (c .before .before .before .loop-test .taken), c .before .before .before .before .before .before .before .before .before .pre .0 .small .room)
 
 one-down-requires : tie.Need-one-down-requires Inv-loop μ-loop
-one-down-requires c κs = let l = c .before .before .before .before .before in let more = c .before .before .before .before .loop-test .taken in let L = l .before .before .before .before .before .pre in
-    (as-is (twice l more) (omega (arith, turn.twice-near (L .0) (L .1) more (l .loop .inv))),
-    as-is (sides l more) (omega (arith, turn.sides-near (L .0) (L .1) more (l .loop .inv))),
-    as-is (moved l more) (turn.moved-near (L .0) (L .1) more (l .loop .inv)),
-    as-is (down l more) (turn.down-near (L .0) (L .1) more (l .loop .inv)))
+one-down-requires c κs = let l = c .before .before .before .before .before in let more = c .before .before .before .before .loop-test .taken in (
+  as-is (twice l more) (omega (arith, turn.twice-near (L l more) (g l more) more (l .loop .inv))),
+  as-is (sides l more) (omega (arith, turn.sides-near (L l more) (g l more) more (l .loop .inv))),
+  as-is (moved l more) (turn.moved-near (L l more) (g l more) more (l .loop .inv)),
+  as-is (down l more) (turn.down-near (L l more) (g l more) more (l .loop .inv)),
+)
 
 mul-far-3 : tie.Need-mul-far-3 Inv-loop μ-loop
 mul-far-3 c = record { fits = omega (arith, low (c .before .before .before .before .before .before) (c .before .before .before .before .before .loop-test .taken)) }
@@ -197,11 +197,14 @@ element-copy-out-across : tie.Need-element-copy-out-across Inv-loop μ-loop
 element-copy-out-across c = omega (arith, low (c .before .before .before .before .before .before) (c .before .before .before .before .before .loop-test .taken))
 
 across-requires : tie.Need-across-requires Inv-loop μ-loop
-across-requires c κs = let l = c .before .before .before .before .before .before .before in let more = c .before .before .before .before .before .before .loop-test .taken in let L = l .before .before .before .before .before .pre in
-    let f = c .before .one-down .result in let e = out-is l more f (c .before .one-down .ensures) in
-    ((as-is (beyond l more) (turn.beyond-near (L .0) (L .1) more (l .loop .inv)), as-is (on l more f e) (turn.on-near (L .0) (L .1) more (l .loop .inv) f e)),
-    ((as-is (first l more) (turn.first-near (L .0) (L .1) more (l .loop .inv) f e), as-is (second l more f e) (turn.second-near (L .0) (L .1) more (l .loop .inv) f e)),
-    as-is (ap₂ _+ℤ_ (first l more) (second l more f e)) (turn.sum-near (L .0) (L .1) more (l .loop .inv) f e)))
+across-requires c κs = let l = c .before .before .before .before .before .before .before in let more = c .before .before .before .before .before .before .loop-test .taken in
+    let f = c .before .one-down .result in let e = out-is l more f (c .before .one-down .ensures) in (
+      (as-is (beyond l more) (turn.beyond-near (L l more) (g l more) more (l .loop .inv)), as-is (on l more f e) (turn.on-near (L l more) (g l more) more (l .loop .inv) f e)),
+      (
+        (as-is (first l more) (turn.first-near (L l more) (g l more) more (l .loop .inv) f e), as-is (second l more f e) (turn.second-near (L l more) (g l more) more (l .loop .inv) f e)),
+        as-is (ap₂ _+ℤ_ (first l more) (second l more f e)) (turn.sum-near (L l more) (g l more) more (l .loop .inv) f e),
+      ),
+    )
 
 mul-sums : tie.Need-mul-sums Inv-loop μ-loop
 mul-sums c = record { fits = omega (arith, low (c .before .before .before .before .before .before .before .before) (c .before .before .before .before .before .before .before .loop-test .taken)) }
@@ -213,10 +216,9 @@ loop-less : tie.Need-loop-less Inv-loop μ-loop
 loop-less c = search needs
 
 loop-again : tie.Need-loop-again Inv-loop μ-loop
-loop-again c = let l = c .before .before .before .before .before .before .before .before in let more = c .before .before .before .before .before .before .before .loop-test .taken in let L = l .before .before .before .before .before .pre in
+loop-again c = let l = c .before .before .before .before .before .before .before .before in let more = c .before .before .before .before .before .before .before .loop-test .taken in
     let f = c .before .before .one-down .result in let e = out-is l more f (c .before .before .one-down .ensures) in
-    turn.spread-turn (L .0) (L .1) more (l .loop .inv) _ _ (far-in l more f e ∙ e)
-    (back-as (c .across .ensures ∙ ap₂ _+ℤ_ (first l more) (second l more f e)) (turn.sum-near (L .0) (L .1) more (l .loop .inv) f e) ∙ turn.across-is (L .0) (L .1) more (l .loop .inv) f e)
+    turn.spread-turn (L l more) (g l more) more (l .loop .inv) _ _ (far-is l more f e) (sum-is l more f e (c .across .result) (c .across .ensures))
 
 returns : tie.Need-returns Inv-loop μ-loop
 returns c = let s = c .before .before .before .before .before .before in turn.spread-end (s .pre .0) (s .pre .1) (omega (arith, c .loop-test .left)) (c .before .loop .inv)
