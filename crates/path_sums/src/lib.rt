@@ -5,7 +5,6 @@ use tree::Tree;
 ghost use mathlib.Core.Path.{_≡_};
 ghost use Prim.Native.Nat.{_≤_, _<_, _^_};
 ghost use lib.IntN.{pos, natAbs, _+ℤ_, _-ℤ_, _*ℤ_};
-ghost use lib.ListN.{length};
 ghost use Rattle.exact.specs.Table.{table, entryOf};
 ghost use Rattle.matrix.specs.Limits.{maxStrains};
 ghost use Rattle.tree_theory.specs.Limits.{maxVertices};
