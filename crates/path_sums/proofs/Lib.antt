@@ -1,0 +1,5 @@
+pub mod Sides
+pub mod Worked
+pub mod Gathering
+pub mod Spans
+pub mod Spreading
