@@ -9,14 +9,19 @@ use lib.Bits.{bitAnd, and-mask}
 use lib.Dec.{eqb}
 use lib.Pow.{mod-pow-add}
 use lib.IntN.{ℤ, natAbs, _+ℤ_, _*ℤ_, +ℤ-idl, +ℤ-idr}
-use Rattle.exact.specs.Sum.{sum, ind}
+use mir.Syntax.{w64}
+use mir.Val.{SFits, toZ, ofZ}
+use Rattle.exact.specs.Sum.{ind}
 use Rattle.exact.proofs.Decide.{eq-no}
 use Rattle.exact.proofs.Ring.{*ℤ-distribʳ}
+use Rattle.exact.proofs.Sign.{fits-abs, back}
 use Rattle.exact.proofs.Sum.{sum-cong, sum-+, ind-no}
-use Rattle.matrix.specs.Limits.{maxStrains}
+use Rattle.matrix.specs.Limits.{maxStrains, maxDistance}
 use Rattle.tree_theory.specs.Cluster.{bitAt}
+use Rattle.tree_theory.proofs.Masks.{shl-one}
 use Rattle.meeting.specs.Meeting.{over}
 use Rattle.meeting.proofs.Masked.{bit-none}
+use Rattle.splits.proofs.Adding.{over-abs}
 
 pub record Halved (m j low high : ℕ) : Type 0 where
   pub before : (i : ℕ) → bitAt low i ≡ true → i < j
@@ -92,9 +97,12 @@ halved zero m = let e : m % 2 ^ 0 ≡ 0 = mod-one m in
     })
 halved (suc j) m = halve-more j m (halved j (m / 2))
 
--- as the code cuts it
-pub halves : (m j : ℕ) → Halved m j (bitAnd m (2 ^ j - 1)) (m - bitAnd m (2 ^ j - 1))
+halves : (m j : ℕ) → Halved m j (bitAnd m (2 ^ j - 1)) (m - bitAnd m (2 ^ j - 1))
 halves m j = rw (and-mask m j) (halved j m)
+
+-- as the code cuts it
+pub code-halves : (m j : ℕ) → j < maxStrains → Halved m j (bitAnd m ((1 * 2 ^ j) % 2 ^ 64 - 1)) (m - bitAnd m ((1 * 2 ^ j) % 2 ^ 64 - 1))
+code-halves m j l = rw (shl-one j l) (halves m j)
 
 module _ {m j low high : ℕ} (h : Halved m j low high) where
   pub low-of : (i : ℕ) → bitAt low i ≡ true → bitAt m i ≡ true
@@ -107,3 +115,21 @@ module _ {m j low high : ℕ} (h : Halved m j low high) where
   unfolding over
   over-halves f = sum-cong maxStrains (λ i _. ap (λ y. y *ℤ f i) (h .bits i) ∙ *ℤ-distribʳ (ind (bitAt low i)) (ind (bitAt high i)) (f i))
       ∙ sum-+ maxStrains (λ i. ind (bitAt low i) *ℤ f i) (λ i. ind (bitAt high i) *ℤ f i)
+
+  -- both halves together, as the code adds them
+  module _ (f : ℕ → ℤ) (near : (i : ℕ) → natAbs (f i) ≤ maxDistance) {a b : ℤ} (ea : a ≡ over low f) (eb : b ≡ over high f) where
+    abbrev code : ℤ
+    code = toZ w64 (ofZ w64 a) +ℤ toZ w64 (ofZ w64 b)
+
+    code-is : code ≡ over m f
+    code-is = ap₂ _+ℤ_ (back a (omega (arith, ap natAbs ea, over-abs maxDistance low f near)) ∙ ea) (back b (omega (arith, ap natAbs eb, over-abs maxDistance high f near)) ∙ eb)
+        ∙ sym (over-halves f)
+
+    code-near : natAbs code < 2 ^ 63
+    code-near = omega (arith, ap natAbs code-is, over-abs maxDistance m f near)
+
+    pub join-fits : SFits w64 code
+    join-fits = fits-abs code code-near
+
+    pub join-is : toZ w64 (ofZ w64 code) ≡ over m f
+    join-is = back code code-near ∙ code-is

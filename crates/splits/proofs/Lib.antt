@@ -1,4 +1,4 @@
 pub mod Adding
 pub mod Reading
 pub mod Halves
-
+pub mod Rowing

@@ -6,13 +6,14 @@ use native.Mathlib.Omega.{arith}
 use lib.IntN.{ℤ, pos, natAbs}
 use lib.ListN.{getD}
 use mir.Syntax.{w64}
-use mir.Val.{SFits, toZ}
-use Rattle.exact.proofs.Sign.{fits-abs, back-pos}
+use mir.Val.{SFits, toZ, ofZ}
+use Rattle.exact.proofs.Sign.{fits-abs, back, back-pos}
 use Rattle.matrix.specs.Limits.{maxDistance}
 use Rattle.matrix.specs.Place.{pairPlace}
 use Rattle.matrix.proofs.Places.{pair-place-sym}
+use Rattle.meeting.specs.Meeting.{over}
 use Rattle.splits.specs.Sums.{entryOfTwo}
-use Rattle.splits.proofs.Adding.{maxPart}
+use Rattle.splits.proofs.Adding.{maxPart, over-abs}
 
 module _ (ds : List ℕ) (near : (k : ℕ) → getD ds k 0 ≤ maxDistance) where
   pub read-fits : (k : ℕ) → SFits w64 (pos (getD ds k 0))
@@ -26,6 +27,13 @@ module _ (ds : List ℕ) (near : (k : ℕ) → getD ds k 0 ≤ maxDistance) wher
 
   pub entry-part : (j i : ℕ) → natAbs (entryOfTwo ds i j) ≤ maxPart
   entry-part j i = omega (arith, entry-abs i j)
+
+  -- of a whole row
+  pub row-part : (others j : ℕ) → natAbs (over others (λ i. entryOfTwo ds i j)) ≤ maxPart
+  row-part others j = over-abs maxDistance others (λ i. entryOfTwo ds i j) (λ i. entry-abs i j)
+
+  pub row-read : (others j : ℕ) (x : ℤ) → x ≡ over others (λ i. entryOfTwo ds i j) → toZ w64 (ofZ w64 x) ≡ over others (λ i. entryOfTwo ds i j)
+  row-read others j x e = back x (omega (arith, ap natAbs e, row-part others j)) ∙ e
 
   -- at the place that the code works out
   pub entry-read : (i j k : ℕ) → k ≡ pairPlace i j → toZ w64 (getD ds k 0) ≡ entryOfTwo ds i j
