@@ -1,93 +1,88 @@
+-- `add_row`: one strain before j a turn, and j's own row at the end.
+use Prim.Native.Nat.{_-_}
+use native.Mathlib.Omega.{arith}
+use mir.Syntax.{w64}
+use mir.Val.{toZ}
+use Rattle.splits.proofs.Reading.{read-fits}
+use Rattle.splits.proofs.Rowing.{Rowing, row-start, raised-fits, whole-fits, row-turn, last-fits, row-end}
 use Rattle.splits.proofs.add_row.Statement.{statement}
 use Rattle.splits.proofs.add_row.Tie as tie
-use Rattle.splits.proofs.add_row.Reads as reads
-use Rattle.splits.proofs.add_row.Lts as lts
 
 abbrev Inv-loop : tie.InvT-loop
-Inv-loop distances first j own₀ whole₀ i₀ own whole i = ?
+Inv-loop distances first j own₀ whole₀ i₀ own whole i = Rowing distances j own₀ i (toZ w64 whole) own
 
 abbrev μ-loop : tie.MeasureT-loop
-μ-loop distances first j own₀ whole₀ i₀ own whole i = ?
+μ-loop distances first j own₀ whole₀ i₀ own whole i = j - i
 
--- src/lib.rt:28:5
 loop-holds : tie.Need-loop-holds Inv-loop μ-loop
-loop-holds c = ?
+loop-holds c = row-start (c .args .distances .now) (c .args .j) (c .args .own .now) (c .pre .1 .1 .0)
 
--- src/lib.rt:29:29
 add-far : tie.Need-add-far Inv-loop μ-loop
-add-far c = ?
+add-far c = omega (arith, c .loop-test .taken, c .before .before .pre .0)
 
--- src/lib.rt:29:19
 mul-far : tie.Need-mul-far Inv-loop μ-loop
-mul-far c = ?
+mul-far c = omega (arith, c .loop-test .taken, c .before .before .pre .0)
 
--- src/lib.rt:29:19
 shared-slice-read-far : tie.Need-shared-slice-read-far Inv-loop μ-loop
-shared-slice-read-far c = ?
+shared-slice-read-far c = omega (arith, c .before .loop-test .taken, c .before .before .before .pre .0)
 
--- src/lib.rt:29:19
 cast-far : tie.Need-cast-far Inv-loop μ-loop
-cast-far c = ?
+cast-far c = let p = c .before .before .before in read-fits (p .args .distances .now) (p .pre .1 .0) _
 
--- src/lib.rt:30:18
 mul-own : tie.Need-mul-own Inv-loop μ-loop
-mul-own c = ?
+mul-own c = omega (arith, c .before .loop-test .taken, c .before .before .before .pre .0)
 
--- src/lib.rt:30:18
 element-copy-out-own : tie.Need-element-copy-out-own Inv-loop μ-loop
-element-copy-out-own c = ?
+element-copy-out-own c = omega (arith, c .before .loop-test .taken, c .before .before .before .pre .0)
 
--- src/lib.rt:30:18
 add-own : tie.Need-add-own Inv-loop μ-loop
-add-own c = ?
+add-own c = let l = c .before .before .before in
+    let p = l .before in
+    raised-fits (p .pre .1 .0) (p .pre .0 .0) (p .pre .1 .1 .1) (l .loop .inv) (p .pre .0 .1) (c .before .before .loop-test .taken)
 
--- src/lib.rt:30:9
 mul-t10 : tie.Need-mul-t10 Inv-loop μ-loop
-mul-t10 c = ?
+mul-t10 c = omega (arith, c .before .before .loop-test .taken, c .before .before .before .before .pre .0)
 
--- src/lib.rt:30:9
 element-set-from-own : tie.Need-element-set-from-own Inv-loop μ-loop
-element-set-from-own c = ?
+element-set-from-own c = omega (arith, c .before .before .loop-test .taken, c .before .before .before .before .pre .0)
 
--- src/lib.rt:31:17
 add-whole : tie.Need-add-whole Inv-loop μ-loop
-add-whole c = ?
+add-whole c = let l = c .before .before .before in
+    let p = l .before in
+    whole-fits (p .pre .1 .0) (p .pre .0 .0) (p .pre .1 .1 .1) (l .loop .inv) (p .pre .0 .1) (c .before .before .loop-test .taken)
 
--- src/lib.rt:32:9
 add-i : tie.Need-add-i Inv-loop μ-loop
-add-i c = ?
+add-i c = omega (arith, c .before .before .loop-test .taken, c .before .before .before .before .pre .0)
 
--- src/lib.rt:28:5
 loop-less : tie.Need-loop-less Inv-loop μ-loop
-loop-less c = ?
+loop-less c = omega (arith, c .before .before .loop-test .taken)
 
--- src/lib.rt:28:5
 loop-again : tie.Need-loop-again Inv-loop μ-loop
-loop-again c = ?
+loop-again c = let l = c .before .before .before in
+    let p = l .before in
+    row-turn (p .pre .1 .0) (p .pre .0 .0) (p .pre .1 .1 .1) (l .loop .inv) (p .pre .0 .1) (c .before .before .loop-test .taken)
 
--- src/lib.rt:34:14
 mul-own-2 : tie.Need-mul-own-2 Inv-loop μ-loop
-mul-own-2 c = ?
+mul-own-2 c = omega (arith, c .before .before .pre .0)
 
--- src/lib.rt:34:14
 element-copy-out-own-2 : tie.Need-element-copy-out-own-2 Inv-loop μ-loop
-element-copy-out-own-2 c = ?
+element-copy-out-own-2 c = omega (arith, c .before .before .pre .0)
 
--- src/lib.rt:34:14
 add-own-2 : tie.Need-add-own-2 Inv-loop μ-loop
-add-own-2 c = ?
+add-own-2 c = let l = c .before .before in
+    let p = l .before in
+    last-fits (p .pre .1 .0) (p .pre .0 .0) (p .pre .1 .1 .1) (l .loop .inv)
 
--- src/lib.rt:34:5
 mul-t24 : tie.Need-mul-t24 Inv-loop μ-loop
-mul-t24 c = ?
+mul-t24 c = omega (arith, c .before .before .before .pre .0)
 
--- src/lib.rt:34:5
 element-set-from-own-2 : tie.Need-element-set-from-own-2 Inv-loop μ-loop
-element-set-from-own-2 c = ?
+element-set-from-own-2 c = omega (arith, c .before .before .before .pre .0)
 
--- src/lib.rt:20:1
 returns : tie.Need-returns Inv-loop μ-loop
-returns c = ?
+returns c = let l = c .before .before in
+    let p = l .before in
+    row-end (p .pre .1 .0) (p .pre .0 .0) (p .pre .1 .1 .1) (l .loop .inv) (c .before .loop-test .left)
 
 pub add-row-spec : {M : Type 1} → statement M
 add-row-spec =
