@@ -2,3 +2,4 @@ pub mod Adding
 pub mod Reading
 pub mod Halves
 pub mod Rowing
+pub mod Swapping
