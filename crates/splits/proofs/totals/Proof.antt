@@ -1,47 +1,61 @@
+-- `totals`: one column a turn, the pairs of strain j with the strains before it.
+use mathlib.Core.Path.{_≡_, refl, sym, ap, subst, _∙_}
+use Prim.Native.Nat.{ℕ, _+_, _-_, _≤_}
+use native.Mathlib.Numerals.{add-one}
+use native.Mathlib.Omega.{arith}
+use borrow.Author.Needs.{needs}
+use Rattle.matrix.specs.Place.{pairCount}
+use Rattle.matrix.proofs.Places.{count-room, count-more, pairs-few}
+use Rattle.splits.specs.Sums.{Rows}
+use Rattle.splits.proofs.Rowing.{rows-none, rows-more, rows-low}
 use Rattle.splits.proofs.totals.Statement.{statement}
 use Rattle.splits.proofs.totals.Tie as tie
-use Rattle.splits.proofs.totals.Reads as reads
-use Rattle.splits.proofs.totals.Lts as lts
-use Rattle.meeting.proofs.no_shares.Reads as no-shares-reads
-use Rattle.splits.proofs.add_row.Reads as add-row-reads
 
 abbrev Inv-loop : tie.InvT-loop
-Inv-loop n distances own₀ j₀ first₀ own j first = ?
+Inv-loop n distances own₀ j₀ first₀ own j first = (j ≤ n) × (first ≡ pairCount j) × Rows j distances own
 
 abbrev μ-loop : tie.MeasureT-loop
-μ-loop n distances own₀ j₀ first₀ own j first = ?
+μ-loop n distances own₀ j₀ first₀ own j first = n - j
 
--- src/lib.rt:43:19
 no-shares-requires : tie.Need-no-shares-requires Inv-loop μ-loop
-no-shares-requires c κs = ?
+no-shares-requires c κs = search needs
 
--- src/lib.rt:46:5
 loop-holds : tie.Need-loop-holds Inv-loop μ-loop
-loop-holds c = ?
+loop-holds c = (omega arith, refl, rows-none (c .before .before .args .distances .now) (c .no-shares .result) (c .no-shares .ensures))
 
--- src/lib.rt:47:9
 add-row-requires : tie.Need-add-row-requires Inv-loop μ-loop
-add-row-requires c κs = ?
+add-row-requires c κs = let l = c .before .before in
+    let p = l .before .before .before in
+    let turn = c .before .loop-test .taken in
+    let inv = l .loop .inv in (
+      (omega (arith, turn, p .pre .0 .0), inv .1, omega (arith, inv .1, p .pre .0 .1, count-room (p .args .n) (l .loop .j) turn)),
+      (p .pre .1, (inv .2 .size, rows-low (p .pre .1) (omega (arith, turn, p .pre .0 .0)) (inv .2))),
+    )
 
--- src/lib.rt:48:9
 add-first : tie.Need-add-first Inv-loop μ-loop
-add-first c = ?
+add-first c = let l = c .before .before .before in
+    let p = l .before .before .before in
+    omega (arith, l .loop .inv .1, count-room (p .args .n) (l .loop .j) (c .before .before .loop-test .taken), pairs-few (p .args .n) (p .pre .0 .0))
 
--- src/lib.rt:49:9
 add-j : tie.Need-add-j Inv-loop μ-loop
-add-j c = ?
+add-j c = omega (arith, c .before .before .loop-test .taken, c .before .before .before .before .before .before .pre .0 .0)
 
--- src/lib.rt:46:5
 loop-less : tie.Need-loop-less Inv-loop μ-loop
-loop-less c = ?
+loop-less c = omega (arith, c .before .before .loop-test .taken)
 
--- src/lib.rt:46:5
 loop-again : tie.Need-loop-again Inv-loop μ-loop
-loop-again c = ?
+loop-again c = let l = c .before .before .before in
+    let j = l .loop .j in (
+      omega (arith, c .before .before .loop-test .taken),
+      ap (λ (k : ℕ). k + j) (l .loop .inv .1) ∙ sym (count-more j) ∙ ap pairCount (sym (add-one j)),
+      rows-more (l .loop .inv .2) (c .add-row .ensures),
+    )
 
--- src/lib.rt:38:1
 returns : tie.Need-returns Inv-loop μ-loop
-returns c = ?
+returns c = let l = c .before in
+    let p = l .before .before .before in
+    let e : l .loop .j ≡ p .args .n = omega (arith, l .loop .inv .0, c .loop-test .left) in
+    subst (λ (k : ℕ). Rows k (p .args .distances .now) (l .loop .own)) e (l .loop .inv .2)
 
 pub totals-spec : {M : Type 1} → statement M
 totals-spec =
