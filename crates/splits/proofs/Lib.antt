@@ -3,3 +3,5 @@ pub mod Reading
 pub mod Halves
 pub mod Rowing
 pub mod Swapping
+pub mod Cutting
+pub mod Passing

@@ -1,129 +1,128 @@
+-- `splits`: one edge a turn, whose strains meet those at its upper end.
+use Prim.Native.Nat.{_-_}
+use native.Mathlib.Omega.{arith}
+use borrow.Author.Needs.{needs}
+use Rattle.splits.proofs.Passing.{Passing, few-edges, pass-start, pass-end, parent-low, met-apart, both-fits, once-fits, twice-fits, pass-turn}
 use Rattle.splits.proofs.splits.Statement.{statement}
 use Rattle.splits.proofs.splits.Tie as tie
-use Rattle.splits.proofs.splits.Reads as reads
-use Rattle.splits.proofs.splits.Lts as lts
-use Rattle.clusters.proofs.own_bits.Reads as own-bits-reads
-use Rattle.splits.proofs.crossed.Reads as crossed-reads
-use Rattle.splits.proofs.totals.Reads as totals-reads
-use Rattle.tree.proofs.edge_zeros.Reads as edge-zeros-reads
 
 abbrev Inv-loop : tie.InvT-loop
-Inv-loop n edges distances parents own₀ come₀ sums₀ v₀ own come sums v = ?
+Inv-loop n edges distances parents own₀ come₀ sums₀ v₀ own come sums v = Passing n edges distances parents v own come sums
 
 abbrev μ-loop : tie.MeasureT-loop
-μ-loop n edges distances parents own₀ come₀ sums₀ v₀ own come sums v = ?
+μ-loop n edges distances parents own₀ come₀ sums₀ v₀ own come sums v = edges - v
 
--- src/lib.rt:140:19
 totals-requires : tie.Need-totals-requires Inv-loop μ-loop
-totals-requires c κs = ?
+totals-requires c κs = let p = c .before .before .pre in ((p .allowed .few, p .held), p .near)
 
--- src/lib.rt:141:20
 own-bits-requires : tie.Need-own-bits-requires Inv-loop μ-loop
-own-bits-requires c κs = ?
+own-bits-requires c κs = c .before .before .before .pre .allowed .few
 
--- src/lib.rt:142:20
 edge-zeros-requires : tie.Need-edge-zeros-requires Inv-loop μ-loop
-edge-zeros-requires c κs = ?
+edge-zeros-requires c κs = search needs
 
--- src/lib.rt:144:5
 loop-holds : tie.Need-loop-holds Inv-loop μ-loop
-loop-holds c = ?
+loop-holds c = pass-start (c .before .before .before .before .before .pre) _ _ _ (c .before .before .totals .ensures) (c .before .own-bits .ensures) (c .edge-zeros .ensures)
 
--- src/lib.rt:145:20
 mul-here : tie.Need-mul-here Inv-loop μ-loop
-mul-here c = ?
+mul-here c = let p = c .before .before .before .before .before .before .before in omega (arith, c .loop-test .taken, few-edges (p .pre))
 
--- src/lib.rt:145:20
 array-read-here : tie.Need-array-read-here Inv-loop μ-loop
-array-read-here c = ?
+array-read-here c = let p = c .before .before .before .before .before .before .before in omega (arith, c .loop-test .taken, few-edges (p .pre))
 
--- src/lib.rt:146:17
 shared-slice-read-m : tie.Need-shared-slice-read-m Inv-loop μ-loop
-shared-slice-read-m c = ?
+shared-slice-read-m c = omega (arith, c .before .loop-test .taken, c .before .before .before .before .before .before .before .before .pre .room)
 
--- src/lib.rt:146:17
 cast-m : tie.Need-cast-m Inv-loop μ-loop
-cast-m c = ?
+cast-m c = let l = c .before .before in
+    let p = l .before .before .before .before .before .before in
+    omega (arith, parent-low (p .pre) (l .loop .inv) (c .before .loop-test .taken))
 
--- src/lib.rt:147:21
 mul-there : tie.Need-mul-there Inv-loop μ-loop
-mul-there c = ?
+mul-there c = let l = c .before .before in
+    let p = l .before .before .before .before .before .before in
+    omega (arith, parent-low (p .pre) (l .loop .inv) (c .before .loop-test .taken))
 
--- src/lib.rt:147:21
 array-read-there : tie.Need-array-read-there Inv-loop μ-loop
-array-read-there c = ?
+array-read-there c = let l = c .before .before in
+    let p = l .before .before .before .before .before .before in
+    omega (arith, parent-low (p .pre) (l .loop .inv) (c .before .loop-test .taken))
 
--- src/lib.rt:149:13
 crossed-requires : tie.Need-crossed-requires Inv-loop μ-loop
-crossed-requires c κs = ?
+crossed-requires c κs = let l = c .before .before in
+    let p = l .before .before .before .before .before .before in
+    (met-apart (p .pre) (l .loop .inv) (c .before .loop-test .taken), p .pre .near)
 
--- src/lib.rt:150:9
 mul-come : tie.Need-mul-come Inv-loop μ-loop
-mul-come c = ?
+mul-come c = let l = c .before .before .before in
+    let p = l .before .before .before .before .before .before in
+    omega (arith, parent-low (p .pre) (l .loop .inv) (c .before .before .loop-test .taken))
 
--- src/lib.rt:150:9
 array-write-come : tie.Need-array-write-come Inv-loop μ-loop
-array-write-come c = ?
+array-write-come c = let l = c .before .before .before in
+    let p = l .before .before .before .before .before .before in
+    omega (arith, parent-low (p .pre) (l .loop .inv) (c .before .before .loop-test .taken))
 
--- src/lib.rt:151:21
 mul-whole : tie.Need-mul-whole Inv-loop μ-loop
-mul-whole c = ?
+mul-whole c = let p = c .before .before .before .before .before .before .before .before .before in omega (arith, c .before .before .loop-test .taken, few-edges (p .pre))
 
--- src/lib.rt:151:21
 array-copy-out-whole : tie.Need-array-copy-out-whole Inv-loop μ-loop
-array-copy-out-whole c = ?
+array-copy-out-whole c = let p = c .before .before .before .before .before .before .before .before .before in omega (arith, c .before .before .loop-test .taken, few-edges (p .pre))
 
--- src/lib.rt:152:9
 mul-sums : tie.Need-mul-sums Inv-loop μ-loop
-mul-sums c = ?
+mul-sums c = let p = c .before .before .before .before .before .before .before .before .before .before in omega (arith, c .before .before .before .loop-test .taken, few-edges (p .pre))
 
--- src/lib.rt:152:9
 array-set-from-sums : tie.Need-array-set-from-sums Inv-loop μ-loop
-array-set-from-sums c = ?
+array-set-from-sums c = let p = c .before .before .before .before .before .before .before .before .before .before in omega (arith, c .before .before .before .loop-test .taken, few-edges (p .pre))
 
--- src/lib.rt:153:18
 mul-own : tie.Need-mul-own Inv-loop μ-loop
-mul-own c = ?
+mul-own c = let l = c .before .before .before .before in
+    let p = l .before .before .before .before .before .before in
+    omega (arith, parent-low (p .pre) (l .loop .inv) (c .before .before .before .loop-test .taken))
 
--- src/lib.rt:153:18
 array-copy-out-own : tie.Need-array-copy-out-own Inv-loop μ-loop
-array-copy-out-own c = ?
+array-copy-out-own c = let l = c .before .before .before .before in
+    let p = l .before .before .before .before .before .before in
+    omega (arith, parent-low (p .pre) (l .loop .inv) (c .before .before .before .loop-test .taken))
 
--- src/lib.rt:153:18
 add-own : tie.Need-add-own Inv-loop μ-loop
-add-own c = ?
+add-own c = let l = c .before .before .before .before .before in
+    let p = l .before .before .before .before .before .before in
+    both-fits (p .pre) (l .loop .inv) (c .before .before .before .before .loop-test .taken) (c .before .before .crossed .ensures)
 
--- src/lib.rt:153:18
 sub-own : tie.Need-sub-own Inv-loop μ-loop
-sub-own c = ?
+sub-own c = let l = c .before .before .before .before .before in
+    let p = l .before .before .before .before .before .before in
+    once-fits (p .pre) (l .loop .inv) (c .before .before .before .before .loop-test .taken) (c .before .before .crossed .ensures)
 
--- src/lib.rt:153:18
 sub-own-2 : tie.Need-sub-own-2 Inv-loop μ-loop
-sub-own-2 c = ?
+sub-own-2 c = let l = c .before .before .before .before .before in
+    let p = l .before .before .before .before .before .before in
+    twice-fits (p .pre) (l .loop .inv) (c .before .before .before .before .loop-test .taken) (c .before .before .crossed .ensures)
 
--- src/lib.rt:153:9
 mul-own-2 : tie.Need-mul-own-2 Inv-loop μ-loop
-mul-own-2 c = ?
+mul-own-2 c = let l = c .before .before .before .before .before in
+    let p = l .before .before .before .before .before .before in
+    omega (arith, parent-low (p .pre) (l .loop .inv) (c .before .before .before .before .loop-test .taken))
 
--- src/lib.rt:153:9
 array-set-from-own : tie.Need-array-set-from-own Inv-loop μ-loop
-array-set-from-own c = ?
+array-set-from-own c = let l = c .before .before .before .before .before in
+    let p = l .before .before .before .before .before .before in
+    omega (arith, parent-low (p .pre) (l .loop .inv) (c .before .before .before .before .loop-test .taken))
 
--- src/lib.rt:154:9
 add-v : tie.Need-add-v Inv-loop μ-loop
-add-v c = ?
+add-v c = let p = c .before .before .before .before .before .before .before .before .before .before .before in omega (arith, c .before .before .before .before .loop-test .taken, few-edges (p .pre))
 
--- src/lib.rt:144:5
 loop-less : tie.Need-loop-less Inv-loop μ-loop
-loop-less c = ?
+loop-less c = omega (arith, c .before .before .before .before .loop-test .taken)
 
--- src/lib.rt:144:5
 loop-again : tie.Need-loop-again Inv-loop μ-loop
-loop-again c = ?
+loop-again c = let l = c .before .before .before .before .before in
+    let p = l .before .before .before .before .before .before in
+    pass-turn (p .pre) (l .loop .inv) (c .before .before .before .before .loop-test .taken) (c .before .before .crossed .ensures)
 
--- src/lib.rt:136:1
 returns : tie.Need-returns Inv-loop μ-loop
-returns c = ?
+returns c = pass-end (c .before .before .before .before .before .before .before .pre) (c .loop-test .left) (c .before .loop .inv)
 
 pub splits-spec : {M : Type 1} → statement M
 splits-spec =
