@@ -89,7 +89,7 @@ module _ (N : ℕ) (ds : List ℕ) where
           arith,
           natAbs-mul (A i *ℤ B j) (entryOfTwo ds i j),
           mul-le-mul {n₁ = natAbs (A i *ℤ B j)} {m₁ = natAbs (entryOfTwo ds i j)} {n₂ = 1} {m₂ = maxDistance}
-          (omega (arith, natAbs-mul (A i) (B j), mul-le-mul {n₁ = natAbs (A i)} {m₁ = natAbs (B j)} {n₂ = 1} {m₂ = 1} (a i) (b j))) (entry-abs ds near i j),
+              (omega (arith, natAbs-mul (A i) (B j), mul-le-mul {n₁ = natAbs (A i)} {m₁ = natAbs (B j)} {n₂ = 1} {m₂ = 1} (a i) (b j))) (entry-abs ds near i j),
         )
 
         row : (i : ℕ) → natAbs (sum N (λ j. A i *ℤ B j *ℤ entryOfTwo ds i j)) ≤ maxPart

@@ -11,9 +11,9 @@ wrapping-sub-u64-requires c κs = search needs
 
 rows-between-requires : tie.Need-rows-between-requires
 rows-between-requires c κs = let p = c .before .before .before in (
-      ⊎-elim (λ w. rw (w .1, w .2) (swap-apart (p .args .distances .now) (p .args .here) (p .args .there) (p .pre .0))) (λ w. rw (w .1, w .2) (p .pre .0)) (c .if1 .came),
-      p .pre .1,
-    )
+  ⊎-elim (λ w. rw (w .1, w .2) (swap-apart (p .args .distances .now) (p .args .here) (p .args .there) (p .pre .0))) (λ w. rw (w .1, w .2) (p .pre .0)) (c .if1 .came),
+  p .pre .1,
+)
 
 returns : tie.Need-returns
 returns c = let p = c .before .before .before .before in
