@@ -48,13 +48,13 @@ fn give(own: &mut [i64; Tree::MAX_VERTICES], j: usize, m: usize, r: i64)
 }
 
 // A strain of a mask, and the mask without it.
-struct Low {
-    strain: usize,
-    rest: u64,
+pub struct Low {
+    pub strain: usize,
+    pub rest: u64,
 }
 
 // The lowest strain of a mask that has one.
-fn lowest_strain(mask: u64) -> Low
+pub fn lowest_strain(mask: u64) -> Low
     requires { ⌜ mask ≢ 0 ⌝ }
     ensures { λ r. ⌜ LowestStrain mask r ⌝ }
 {
