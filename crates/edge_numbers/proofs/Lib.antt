@@ -1,3 +1,4 @@
 pub mod Products
 pub mod Weights
 pub mod ByEdges
+pub mod Mixing

@@ -3,8 +3,8 @@
 // pair is looked at by itself.
 use tree::Tree;
 ghost use mathlib.Core.Path.{_≡_};
-ghost use Prim.Native.Nat.{ℕ, _*_, _%_, _^_, _≤_};
-ghost use lib.IntN.{pos, _+ℤ_, _*ℤ_};
+ghost use Prim.Native.Nat.{ℕ, _*_, _%_, _^_, _≤_, _<_};
+ghost use lib.IntN.{pos, natAbs, _+ℤ_, _*ℤ_};
 ghost use lib.ListN.{length, getD};
 ghost use Rattle.exact.specs.Sum.{sum};
 ghost use Rattle.exact.specs.Table.{entryOf};
@@ -12,6 +12,7 @@ ghost use Rattle.exact.specs.Modulo.{Modulo};
 ghost use Rattle.matrix.specs.Limits.{maxDistance, maxPairs};
 ghost use Rattle.tree_theory.specs.Limits.{maxEdges};
 ghost use Rattle.edge_numbers.specs.Squares.{squareAt};
+ghost use Rattle.edge_numbers.specs.Mixes.{Mixable, Mixed};
 
 // Half a word: what a digit of 32 bits is below.
 const HALF: u64 = 4_294_967_296;
@@ -46,8 +47,8 @@ fn gather(acc: u64, a: i64, b: i64) -> u64
 }
 
 // The accumulator acc with the products of the entries of two tables added, an edge a turn, modulo 2^64.
-fn weighted(acc: u64, edges: usize, x: &[i64], y: &[i64; Tree::MAX_EDGES]) -> u64
-    requires { ⌜ (edges ≤ length (now x)) × (edges ≤ maxEdges) ⌝ }
+fn weighted(acc: u64, edges: usize, x: &[i64], y: &[i64]) -> u64
+    requires { ⌜ (edges ≤ length (now x)) × (edges ≤ length (now y)) ⌝ }
     ensures { λ r. ⌜ Modulo r (pos acc +ℤ sum edges (λ v. entryOf (now (x .entry)) v *ℤ entryOf (now (y .entry)) v)) ⌝ }
 {
     let mut held = acc;
@@ -73,4 +74,32 @@ fn squares(distances: &[u16], count: usize) -> u64
         k += 1;
     }
     sum
+}
+
+// a times x, with b times y added.
+fn blend(a: i64, x: i64, b: i64, y: i64) -> i64
+    requires { ⌜ (natAbs (a *ℤ x) < 2 ^ 63) × (natAbs (b *ℤ y) < 2 ^ 63) × (natAbs (a *ℤ x +ℤ b *ℤ y) < 2 ^ 63) ⌝ }
+    ensures { λ r. ⌜ r ≡ a *ℤ x +ℤ b *ℤ y ⌝ }
+{
+    a * x + b * y
+}
+
+// Two tables mixed: each entry of the first times a, with the same entry of the second times b added. The first is written over.
+fn mix(
+    edges: usize,
+    a: i64,
+    b: i64,
+    sums: &mut [i64; Tree::MAX_EDGES],
+    paths: &[i64; Tree::MAX_VERTICES],
+)
+    requires { ⌜ (edges ≤ maxEdges) × (length (now sums) ≡ maxEdges) ⌝ }
+    requires { ⌜ Mixable edges a b (now sums) (now paths) ⌝ }
+    ensures { λ _. ⌜ Mixed edges a b (now (sums .entry)) (now (paths .entry)) (now (sums .exit)) ⌝ }
+{
+    let mut v = 0;
+    while v < edges {
+        let mixed = blend(a, sums[v], b, paths[v]);
+        sums[v] = mixed;
+        v += 1;
+    }
 }

@@ -28,8 +28,8 @@ shared-slice-copy-out-gather c = search needs
 mul-gather-2 : tie.Need-mul-gather-2 Inv-loop μ-loop
 mul-gather-2 c = search needs
 
-element-copy-out-gather : tie.Need-element-copy-out-gather Inv-loop μ-loop
-element-copy-out-gather c = search needs
+shared-slice-copy-out-gather-2 : tie.Need-shared-slice-copy-out-gather-2 Inv-loop μ-loop
+shared-slice-copy-out-gather-2 c = search needs
 
 gather-requires : tie.Need-gather-requires Inv-loop μ-loop
 gather-requires c κs = search needs
@@ -62,7 +62,7 @@ weighted-spec =
     mul-gather
     shared-slice-copy-out-gather
     mul-gather-2
-    element-copy-out-gather
+    shared-slice-copy-out-gather-2
     gather-requires
     add-v
     loop-less
