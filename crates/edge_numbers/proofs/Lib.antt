@@ -2,3 +2,5 @@ pub mod Products
 pub mod Weights
 pub mod ByEdges
 pub mod Mixing
+pub mod Complete
+pub mod Totals

@@ -13,8 +13,8 @@ use Rattle.exact.specs.Modulo.{Modulo}
 use Rattle.exact.proofs.Modular.{modulo-self, modulo-chain}
 use Rattle.exact.proofs.Quote.{by-ring, quote}
 use Rattle.exact.proofs.Sum.{sum-0, sum-suc}
-use Rattle.matrix.specs.Limits.{maxDistance, maxPairs}
-use Rattle.edge_numbers.specs.Squares.{squareAt}
+use Rattle.matrix.specs.Limits.{maxDistance}
+use Rattle.edge_numbers.specs.Squares.{squareAt, largestSquare}
 
 -- ---- products
 abbrev pub weightedTo : List ℤ → List ℤ → ℕ → ℤ
@@ -37,9 +37,6 @@ weights-more acc held r v x y a b e f h g = subst (Modulo r)
     apart p q t = by-ring (p ∷ q ∷ t ∷ []) (search quote depth 20) tt
 
 -- ---- squares, each at most that of the greatest distance
-abbrev pub largestSquare : ℕ
-largestSquare = maxDistance * maxDistance
-
 pub square-low : (x : ℕ) → x ≤ maxDistance → x * x ≤ largestSquare
 square-low x h = mul-le-mul {n₁ = x} {m₁ = x} {n₂ = maxDistance} {m₂ = maxDistance} h h
 

@@ -1,2 +1,3 @@
 pub mod Squares
 pub mod Mixes
+pub mod Taken

@@ -6,13 +6,21 @@ ghost use mathlib.Core.Path.{_≡_};
 ghost use Prim.Native.Nat.{ℕ, _*_, _%_, _^_, _≤_, _<_};
 ghost use lib.IntN.{pos, natAbs, _+ℤ_, _*ℤ_};
 ghost use lib.ListN.{length, getD};
-ghost use Rattle.exact.specs.Sum.{sum};
-ghost use Rattle.exact.specs.Table.{entryOf};
+ghost use Rattle.exact.specs.Sum.{sum, pairs};
+ghost use Rattle.exact.specs.Table.{table, entryOf};
 ghost use Rattle.exact.specs.Modulo.{Modulo};
+ghost use Rattle.exact.specs.Fits.{Fits63};
+ghost use Rattle.exact.specs.LeastSquares.{edgeSum, sumF, sumR, sumH};
 ghost use Rattle.matrix.specs.Limits.{maxDistance, maxPairs};
+ghost use Rattle.lengths.specs.Limits.{maxDenominator};
 ghost use Rattle.tree_theory.specs.Limits.{maxEdges};
-ghost use Rattle.edge_numbers.specs.Squares.{squareAt};
+ghost use Rattle.tree_theory.specs.Chain.{parentOf, partsPair};
+ghost use Rattle.tree_theory.specs.EdgeTable.{EdgeTable};
+ghost use Rattle.inner_paths.specs.Between.{Lengthened};
+ghost use Rattle.splits.specs.Sums.{entryAt, Splittable};
+ghost use Rattle.edge_numbers.specs.Squares.{squareAt, maxSquares};
 ghost use Rattle.edge_numbers.specs.Mixes.{Mixable, Mixed};
+ghost use Rattle.edge_numbers.specs.Taken.{TakenOff};
 
 // Half a word: what a digit of 32 bits is below.
 const HALF: u64 = 4_294_967_296;
@@ -64,7 +72,7 @@ fn weighted(acc: u64, edges: usize, x: &[i64], y: &[i64]) -> u64
 fn squares(distances: &[u16], count: usize) -> u64
     requires { ⌜ (count ≤ length (now distances)) × (count ≤ maxPairs) ⌝ }
     requires { ⌜ ((k : ℕ) → getD (now distances) k 0 ≤ maxDistance) ⌝ }
-    ensures { λ r. ⌜ pos r ≡ sum count (λ k. squareAt (now (distances .entry)) k) ⌝ }
+    ensures { λ r. ⌜ (pos r ≡ sum count (λ k. squareAt (now (distances .entry)) k)) × (r ≤ maxSquares) ⌝ }
 {
     let mut sum: u64 = 0;
     let mut k = 0;
@@ -102,4 +110,25 @@ fn mix(
         sums[v] = mixed;
         v += 1;
     }
+}
+
+// F: the sum of d·r over the pairs, where the table has for each edge what its pairs take off. The sum travels modulo 2^64, and the total
+// is exact where it fits.
+fn f_of(
+    n: usize,
+    edges: usize,
+    d: u32,
+    distances: &[u16],
+    parents: &[u8],
+    numerators: &[i64],
+    taken: &[i64; Tree::MAX_EDGES],
+) -> i64
+    requires { ⌜ Splittable n edges (now distances) (now parents) ⌝ }
+    requires { ⌜ (edges ≤ length (now numerators)) × (d ≤ maxDenominator) ⌝ }
+    requires { ⌜ TakenOff n edges (now distances) (parentOf (now parents)) (now taken) ⌝ }
+    requires { ⌜ Fits63 (sumF (pairs n) edges (partsPair (parentOf (now parents))) (entryAt (now distances)) (pos d) (entryOf (now numerators))) ⌝ }
+    ensures { λ r. ⌜ r ≡ sumF (pairs n) edges (partsPair (parentOf (now (parents .entry)))) (entryAt (now (distances .entry))) (pos d) (entryOf (now (numerators .entry))) ⌝ }
+{
+    let whole = squares(distances, matrix::pair_count(n as u32) as usize);
+    weighted(d as u64 * whole, edges, numerators, taken) as i64
 }

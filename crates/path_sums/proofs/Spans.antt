@@ -20,7 +20,7 @@ use Rattle.exact.proofs.Ring.{*ℤ-oneʳ}
 use Rattle.exact.proofs.Sign.{natAbs-add, natAbs-mul, within→abs, abs→within}
 use Rattle.exact.proofs.Sum.{sum-cong, sum-nn, ind-nn}
 use Rattle.verdict.specs.Table.{count}
-use Rattle.tree_theory.specs.Chain.{below, partsPair}
+use Rattle.tree_theory.specs.Chain.{parentOf, below, partsPair}
 use Rattle.tree_theory.specs.Allowed.{Allowed}
 use Rattle.tree_theory.proofs.Chains.{Below, along, along-sym, below-true, below-yes}
 use Rattle.tree_theory.proofs.Counts.{sum-count}
@@ -28,6 +28,7 @@ use Rattle.tree_theory.proofs.Depth.{path-bound}
 use Rattle.tree_theory.proofs.Directions.{spread}
 use Rattle.tree_theory.proofs.Strains.{leaf}
 use Rattle.paths.specs.Standing.{maxThousandths, Small}
+use Rattle.inner_paths.specs.Between.{Lengthened}
 use Rattle.path_sums.specs.Sums.{pathSum, crowd, waysUp, waysOut}
 use Rattle.path_sums.proofs.Sides.{by-way, off, off-sum, on-is, pairs-off}
 
@@ -174,10 +175,17 @@ module _ {N K : ℕ} {par : ℕ → ℕ} (ok : Allowed N K par) {x : List ℤ} (
     pub second-near : natAbs (crowd N par v *ℤ (waysOut N K par X v -ℤ waysUp N K par X v)) < 2 ^ 63
     second-near = omega (arith, natAbs-mul (crowd N par v) (waysOut N K par X v -ℤ waysUp N K par X v), mul-le-mul {n₂ = in-count} {m₂ = out-count * span} (≤-of (ap natAbs crowd-count)) on-abs, few-pairs)
 
-    pub sum-near : natAbs (pathSum N K par X v) < 2 ^ 63
-    sum-near = omega (
+    few-paths : natAbs (pathSum N K par X v) ≤ 1024 * span
+    few-paths = omega (
       arith,
       ap natAbs (pairs-off N K par ok X v edge),
       taken-abs N (out-count * span) (λ j. below par j v) (λ j. sum N (λ i. off N K par ok X v edge i *ℤ along par K X i j)) (λ j l e. row-abs j l (below-true par j v e)),
       few-pairs,
     )
+
+    pub sum-near : natAbs (pathSum N K par X v) < 2 ^ 63
+    sum-near = omega (arith, few-paths)
+
+-- a path sum is at most 1,024 paths of 63 edges away from 0
+pub sums-near : {N K : ℕ} {ps : List ℕ} {xs : List ℤ} → Lengthened N K ps xs → (v : ℕ) → v < K → natAbs (pathSum N K (parentOf ps) (entryOf xs) v) ≤ 6451200000000000000
+sums-near L v edge = omega (arith, few-paths (L .allowed) (L .small) v edge)

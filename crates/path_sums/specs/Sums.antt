@@ -39,3 +39,8 @@ pub record Gathered (N K : ℕ) (par : ℕ → ℕ) (x : ℕ → ℤ) (sizes way
   pub roomOfWays : length ways ≡ maxVertices
   pub size : (v : ℕ) → v ≤ K → entryOf sizes v ≡ crowd N par v
   pub way : (v : ℕ) → v ≤ K → entryOf ways v ≡ waysUp N K par x v
+
+-- a table that has for each of K edges the paths of the pairs that it parts, added up; nothing is said of what is behind them
+pub record PathSums (N K : ℕ) (par : ℕ → ℕ) (x : ℕ → ℤ) (r : List ℤ) : Type 0 where
+  pub size : length r ≡ maxVertices
+  pub entries : (v : ℕ) → v < K → entryOf r v ≡ pathSum N K par x v

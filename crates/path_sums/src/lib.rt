@@ -9,29 +9,27 @@ ghost use Rattle.exact.specs.Table.{table, entryOf};
 ghost use Rattle.matrix.specs.Limits.{maxStrains};
 ghost use Rattle.tree_theory.specs.Limits.{maxVertices};
 ghost use Rattle.tree_theory.specs.Chain.{parentOf};
-ghost use Rattle.tree_theory.specs.EdgeTable.{EdgeTable};
 ghost use Rattle.inner_paths.specs.Between.{Lengthened};
-ghost use Rattle.path_sums.specs.Sums.{pathSum, Alone, Gathered};
+ghost use Rattle.path_sums.specs.Sums.{Alone, Gathered, PathSums};
 
-// Zeros, one for each vertex.
-fn zeros() -> [i64; Tree::MAX_VERTICES]
+// Zeros, room for the sums of each vertex.
+pub fn no_sums() -> [i64; Tree::MAX_VERTICES]
     ensures { λ r. ⌜ r ≡ table maxVertices (λ _. pos 0) ⌝ }
 {
     [0; Tree::MAX_VERTICES]
 }
 
 // One for each strain, before any has gone up.
-fn strains_alone(n: usize) -> [i64; Tree::MAX_VERTICES]
+fn strains_alone(n: usize, sizes: &mut [i64; Tree::MAX_VERTICES])
     requires { ⌜ n ≤ maxStrains ⌝ }
-    ensures { λ r. ⌜ Alone n r ⌝ }
+    requires { ⌜ now sizes ≡ table maxVertices (λ _. pos 0) ⌝ }
+    ensures { λ _. ⌜ Alone n (now (sizes .exit)) ⌝ }
 {
-    let mut sizes = zeros();
     let mut i = 0;
     while i < n {
         sizes[i] = 1;
         i += 1;
     }
-    sizes
 }
 
 // The paths up to a vertex once those of a child's strains have come, each longer by the child's edge.
@@ -86,41 +84,46 @@ fn across(all: i64, size: i64, way: i64, far: i64) -> i64
     (all - size) * way + size * (far - way)
 }
 
-// Down the tree: a vertex has its parent's paths, which came before.
+// Down the tree, in place: a vertex has its parent's paths, which came before, and then its edge's sum stands where its size did.
 fn spread(
     n: usize,
     edges: usize,
     parents: &[u8],
     x: &[i64],
-    sizes: &[i64; Tree::MAX_VERTICES],
-    ways: &[i64; Tree::MAX_VERTICES],
-) -> [i64; Tree::MAX_EDGES]
+    sizes: &mut [i64; Tree::MAX_VERTICES],
+    ways: &mut [i64; Tree::MAX_VERTICES],
+)
     requires { ⌜ Lengthened n edges (now parents) (now x) ⌝ }
     requires { ⌜ Gathered n edges (parentOf (now parents)) (entryOf (now x)) (now sizes) (now ways) ⌝ }
-    ensures { λ r. ⌜ EdgeTable edges (pathSum n edges (parentOf (now (parents .entry))) (entryOf (now (x .entry)))) r ⌝ }
+    ensures { λ _. ⌜ PathSums n edges (parentOf (now (parents .entry))) (entryOf (now (x .entry))) (now (sizes .exit)) ⌝ }
 {
     let all = n as i64;
-    let mut sums = tree::edge_zeros();
-    let mut far = zeros();
-    far[edges] = ways[edges];
     let mut w = edges;
     while w > 0 {
         w -= 1;
         let size = sizes[w];
-        let f = one_down(far[parents[w] as usize], x[w], all, size);
-        far[w] = f;
-        sums[w] = across(all, size, ways[w], f);
+        let way = ways[w];
+        // The parent had its turn, or is the root: its paths to all strains stand there now.
+        let far = one_down(ways[parents[w] as usize], x[w], all, size);
+        ways[w] = far;
+        sizes[w] = across(all, size, way, far);
     }
-    sums
 }
 
-// For each edge the paths of the pairs of strains that it parts, added up, then zeros.
-pub fn path_sums(n: usize, edges: usize, parents: &[u8], x: &[i64]) -> [i64; Tree::MAX_EDGES]
+// For each edge the paths of the pairs of strains that it parts, added up; what is behind the edges is left over from the work.
+pub fn path_sums(
+    n: usize,
+    edges: usize,
+    parents: &[u8],
+    x: &[i64],
+    sums: &mut [i64; Tree::MAX_VERTICES],
+)
     requires { ⌜ Lengthened n edges (now parents) (now x) ⌝ }
-    ensures { λ r. ⌜ EdgeTable edges (pathSum n edges (parentOf (now (parents .entry))) (entryOf (now (x .entry)))) r ⌝ }
+    requires { ⌜ now sums ≡ table maxVertices (λ _. pos 0) ⌝ }
+    ensures { λ _. ⌜ PathSums n edges (parentOf (now (parents .entry))) (entryOf (now (x .entry))) (now (sums .exit)) ⌝ }
 {
-    let mut sizes = strains_alone(n);
-    let mut ways = zeros();
-    gather(n, edges, parents, x, &mut sizes, &mut ways);
-    spread(n, edges, parents, x, &sizes, &ways)
+    strains_alone(n, sums);
+    let mut ways = no_sums();
+    gather(n, edges, parents, x, sums, &mut ways);
+    spread(n, edges, parents, x, sums, &mut ways);
 }

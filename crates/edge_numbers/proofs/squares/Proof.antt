@@ -49,7 +49,9 @@ loop-again : tie.Need-loop-again Inv-loop μ-loop
 loop-again c = squaring-more _ _ _ _ (near c) (omega arith) (c .before .before .loop .inv)
 
 returns : tie.Need-returns Inv-loop μ-loop
-returns c = let l = c .before in let e : l .loop .k ≡ l .before .args .count = omega (arith, l .loop .inv .here) in l .loop .inv .is ∙ ap (λ (n : ℕ). sum n (squareAt (l .before .args .distances .now))) e
+returns c = let l = c .before in
+    let e : l .loop .k ≡ l .before .args .count = omega (arith, l .loop .inv .here) in
+    (l .loop .inv .is ∙ ap (λ (n : ℕ). sum n (squareAt (l .before .args .distances .now))) e, omega (arith, l .loop .inv .low, l .before .pre .0 .1))
 
 pub squares-spec : {M : Type 1} → statement M
 squares-spec =

@@ -17,17 +17,14 @@ Inv-loop n sizes₀ i₀ sizes i = (i ≤ n) × (length sizes ≡ maxVertices) �
 abbrev μ-loop : tie.MeasureT-loop
 μ-loop n sizes₀ i₀ sizes i = n - i
 
-zeros-requires : tie.Need-zeros-requires Inv-loop μ-loop
-zeros-requires c κs = search needs
-
 loop-holds : tie.Need-loop-holds Inv-loop μ-loop
-loop-holds c = let e = c .zeros .ensures in (omega arith, ap length e ∙ length-table maxVertices (λ _. pos 0), fill-none (pos 0) _ _ _ (λ k. ap (λ l. entryOf l k) e ∙ getD-table-const maxVertices (pos 0) k))
+loop-holds c = let e = c .pre .1 in (omega arith, ap length e ∙ length-table maxVertices (λ _. pos 0), fill-none (pos 0) _ _ _ (λ k. ap (λ l. entryOf l k) e ∙ getD-table-const maxVertices (pos 0) k))
 
 mul-sizes : tie.Need-mul-sizes Inv-loop μ-loop
 mul-sizes c = search needs
 
-array-set-of-sizes : tie.Need-array-set-of-sizes Inv-loop μ-loop
-array-set-of-sizes c = search needs
+element-set-of-sizes : tie.Need-element-set-of-sizes Inv-loop μ-loop
+element-set-of-sizes c = search needs
 
 add-i : tie.Need-add-i Inv-loop μ-loop
 add-i c = search needs
@@ -36,7 +33,7 @@ loop-less : tie.Need-loop-less Inv-loop μ-loop
 loop-less c = search needs
 
 loop-again : tie.Need-loop-again Inv-loop μ-loop
-loop-again c = let l = c .before .loop in (omega arith, length-set (l .sizes) (l .i) (pos 1) ∙ l .inv .1, fill-more (pos 0) _ _ (l .i) (l .sizes) (pos 1) (omega (arith, l .inv .1, c .loop-test .taken, c .before .before .before .pre)) refl (l .inv .2))
+loop-again c = let l = c .before .loop in (omega arith, length-set (l .sizes) (l .i) (pos 1) ∙ l .inv .1, fill-more (pos 0) _ _ (l .i) (l .sizes) (pos 1) (omega (arith, l .inv .1, c .loop-test .taken, c .before .before .pre .0)) refl (l .inv .2))
 
 returns : tie.Need-returns Inv-loop μ-loop
 returns c = let l = c .before .loop .inv in record {
@@ -51,10 +48,9 @@ strains-alone-spec =
     (tie.spec
     Inv-loop
     μ-loop
-    zeros-requires
     loop-holds
     mul-sizes
-    array-set-of-sizes
+    element-set-of-sizes
     add-i
     loop-less
     loop-again
