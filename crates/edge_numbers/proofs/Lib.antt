@@ -4,3 +4,5 @@ pub mod ByEdges
 pub mod Mixing
 pub mod Complete
 pub mod Totals
+pub mod Bounds
+pub mod OneEach

@@ -15,6 +15,7 @@ ghost use Rattle.matrix.specs.Limits.{maxDistance, maxPairs};
 ghost use Rattle.lengths.specs.Limits.{maxDenominator};
 ghost use Rattle.tree_theory.specs.Limits.{maxEdges};
 ghost use Rattle.tree_theory.specs.Chain.{parentOf, partsPair};
+ghost use Rattle.tree_theory.specs.Allowed.{Allowed};
 ghost use Rattle.tree_theory.specs.EdgeTable.{EdgeTable};
 ghost use Rattle.inner_paths.specs.Between.{Lengthened};
 ghost use Rattle.splits.specs.Sums.{entryAt, Splittable};
@@ -131,4 +132,46 @@ fn f_of(
 {
     let whole = squares(distances, matrix::pair_count(n as u32) as usize);
     weighted(d as u64 * whole, edges, numerators, taken) as i64
+}
+
+// R: the sum of the squares of the remainders over 1000 and the rounded lengths, likewise. The table of what is taken off is written over.
+fn r_of(
+    n: usize,
+    edges: usize,
+    distances: &[u16],
+    parents: &[u8],
+    lengths: &[i64],
+    taken: &mut [i64; Tree::MAX_EDGES],
+) -> i64
+    requires { ⌜ Splittable n edges (now distances) (now parents) ⌝ }
+    requires { ⌜ Lengthened n edges (now parents) (now lengths) ⌝ }
+    requires { ⌜ TakenOff n edges (now distances) (parentOf (now parents)) (now taken) ⌝ }
+    requires { ⌜ Fits63 (sumR (pairs n) edges (partsPair (parentOf (now parents))) (entryAt (now distances)) (entryOf (now lengths))) ⌝ }
+    ensures { λ r. ⌜ r ≡ sumR (pairs n) edges (partsPair (parentOf (now (parents .entry)))) (entryAt (now (distances .entry))) (entryOf (now (lengths .entry))) ⌝ }
+{
+    let mut paths = path_sums::no_sums();
+    path_sums::path_sums(n, edges, parents, lengths, &mut paths);
+    mix(edges, 2000, 1, taken, &paths);
+    let whole = squares(distances, matrix::pair_count(n as u32) as usize);
+    let mixed = &taken[..];
+    weighted(1_000_000 * whole, edges, lengths, mixed) as i64
+}
+
+// 1 for each edge: the path over these is the number of edges on it.
+pub fn ones() -> [i64; Tree::MAX_EDGES]
+    ensures { λ r. ⌜ r ≡ table maxEdges (λ _. pos 1) ⌝ }
+{
+    [1; Tree::MAX_EDGES]
+}
+
+// H: the sum of the squares of the numbers of edges that part the pairs.
+fn h_of(n: usize, edges: usize, parents: &[u8]) -> i64
+    requires { ⌜ (edges ≤ length (now parents)) × Allowed n edges (parentOf (now parents)) ⌝ }
+    requires { ⌜ Fits63 (sumH (pairs n) edges (partsPair (parentOf (now parents)))) ⌝ }
+    ensures { λ r. ⌜ r ≡ sumH (pairs n) edges (partsPair (parentOf (now (parents .entry)))) ⌝ }
+{
+    let one_each = ones();
+    let mut paths = path_sums::no_sums();
+    path_sums::path_sums(n, edges, parents, &one_each, &mut paths);
+    weighted(0, edges, &one_each, &paths) as i64
 }

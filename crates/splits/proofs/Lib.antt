@@ -5,3 +5,4 @@ pub mod Rowing
 pub mod Swapping
 pub mod Cutting
 pub mod Passing
+pub mod Bound
