@@ -6,3 +6,4 @@ pub mod Complete
 pub mod Totals
 pub mod Bounds
 pub mod OneEach
+pub mod Tables

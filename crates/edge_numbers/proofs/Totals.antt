@@ -5,6 +5,8 @@ use Prim.Native.Nat.{ℕ, _+_, _*_, _≤_, _<_, _^_}
 use native.Mathlib.Omega.{arith}
 use lib.IntN.{ℤ, pos, negsuc, negℤ, natAbs, _+ℤ_, _*ℤ_, +ℤ-idl}
 use lib.ListN.{length, getD}
+use mir.Syntax.{w64}
+use mir.Val.{SFits}
 use Rattle.exact.specs.Fits.{Fits63}
 use Rattle.exact.specs.Modulo.{Modulo}
 use Rattle.exact.specs.Order.{_≤ᶻ_}
@@ -14,6 +16,7 @@ use Rattle.exact.specs.LeastSquares.{sq, sumF, sumX, sumR, sumH}
 use Rattle.exact.proofs.Modular.{modulo-is}
 use Rattle.exact.proofs.Order.{≤-pos}
 use Rattle.exact.proofs.Quote.{by-ring, quote}
+use Rattle.exact.proofs.Sign.{fits-abs}
 use Rattle.exact.proofs.Sum.{sum-cong, pairs-sums}
 use Rattle.matrix.specs.Place.{pairCount}
 use Rattle.tree_theory.specs.Chain.{parentOf, partsPair}
@@ -41,6 +44,10 @@ gathered-is acc z small fits h =
 
 pub gathered-high : (acc : ℕ) (z : ℤ) → Fits63 z → pos acc ≡ z → acc ≤ 9223372036854775807
 gathered-high acc z fits e = ≤-pos (subst (λ y. y ≤ᶻ pos 9223372036854775807) (sym e) (fits .high))
+
+-- a number that fits 63 bits comes back as it went in
+pub fits-of : (z y : ℤ) → z ≡ y → Fits63 y → SFits w64 z
+fits-of z y e f = fits-abs z (omega (arith, ap natAbs e, between y 9223372036854775807 (f .low) (f .high)))
 
 -- ---- F, by what is taken off
 module _ (N K D : ℕ) (ds ps : List ℕ) (ns taken : List ℤ) (t : TakenOff N K ds (parentOf ps) taken) (squares : ℕ) (e : pos squares ≡ sum (pairCount N) (λ k. squareAt ds k)) where

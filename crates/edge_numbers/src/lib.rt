@@ -175,3 +175,101 @@ fn h_of(n: usize, edges: usize, parents: &[u8]) -> i64
     path_sums::path_sums(n, edges, parents, &one_each, &mut paths);
     weighted(0, edges, &one_each, &paths) as i64
 }
+
+// For each edge the remainders of the pairs that it parts, added up, in a lent table of zeros: d times what the table of distances
+// has for these pairs, less their paths.
+pub fn remainders(
+    n: usize,
+    edges: usize,
+    d: u32,
+    distances: &[u16],
+    parents: &[u8],
+    numerators: &[i64],
+    sums: &mut [i64; Tree::MAX_EDGES],
+)
+    requires { ⌜ Splittable n edges (now distances) (now parents) ⌝ }
+    requires { ⌜ Lengthened n edges (now parents) (now numerators) ⌝ }
+    requires { ⌜ d ≤ maxDenominator ⌝ }
+    requires { ⌜ now sums ≡ table maxEdges (λ _. pos 0) ⌝ }
+    ensures { λ _. ⌜ EdgeTable edges (edgeSum (pairs n) edges (partsPair (parentOf (now (parents .entry)))) (entryAt (now (distances .entry))) (pos d) (entryOf (now (numerators .entry)))) (now (sums .exit)) ⌝ }
+{
+    splits::splits(n, edges, distances, parents, sums);
+    let mut paths = path_sums::no_sums();
+    path_sums::path_sums(n, edges, parents, numerators, &mut paths);
+    mix(edges, d as i64, -1, sums, &paths);
+}
+
+// What the pairs of each edge take off: its split sum below zero.
+fn taken_off(n: usize, edges: usize, distances: &[u16], parents: &[u8]) -> [i64; Tree::MAX_EDGES]
+    requires { ⌜ Splittable n edges (now distances) (now parents) ⌝ }
+    ensures { λ r. ⌜ TakenOff n edges (now (distances .entry)) (parentOf (now (parents .entry))) r ⌝ }
+{
+    let mut sums = tree::edge_zeros();
+    splits::splits(n, edges, distances, parents, &mut sums);
+    let none = path_sums::no_sums();
+    mix(edges, -1, 0, &mut sums, &none);
+    sums
+}
+
+// The two sums of squares: R of the rounded lengths, and H.
+pub struct Squared {
+    pub r: i64,
+    pub h: i64,
+}
+
+// F of the lengths and the sums of squares of their rounding.
+pub struct Figures {
+    pub f: i64,
+    pub r: i64,
+    pub h: i64,
+}
+
+pub fn square_sums(
+    n: usize,
+    edges: usize,
+    distances: &[u16],
+    parents: &[u8],
+    lengths: &[i64],
+) -> Squared
+    requires { ⌜ Splittable n edges (now distances) (now parents) ⌝ }
+    requires { ⌜ Lengthened n edges (now parents) (now lengths) ⌝ }
+    requires { ⌜ Fits63 (sumR (pairs n) edges (partsPair (parentOf (now parents))) (entryAt (now distances)) (entryOf (now lengths))) ⌝ }
+    requires { ⌜ Fits63 (sumH (pairs n) edges (partsPair (parentOf (now parents)))) ⌝ }
+    ensures { λ s. ⌜ s .r ≡ sumR (pairs n) edges (partsPair (parentOf (now (parents .entry)))) (entryAt (now (distances .entry))) (entryOf (now (lengths .entry))) ⌝ }
+    ensures { λ s. ⌜ s .h ≡ sumH (pairs n) edges (partsPair (parentOf (now (parents .entry)))) ⌝ }
+{
+    let mut taken = taken_off(n, edges, distances, parents);
+    Squared {
+        r: r_of(n, edges, distances, parents, lengths, &mut taken),
+        h: h_of(n, edges, parents),
+    }
+}
+
+// All three, with what the pairs take off worked once.
+pub fn numbers(
+    n: usize,
+    edges: usize,
+    d: u32,
+    distances: &[u16],
+    parents: &[u8],
+    numerators: &[i64],
+    lengths: &[i64],
+) -> Figures
+    requires { ⌜ Splittable n edges (now distances) (now parents) ⌝ }
+    requires { ⌜ (edges ≤ length (now numerators)) × (d ≤ maxDenominator) ⌝ }
+    requires { ⌜ Lengthened n edges (now parents) (now lengths) ⌝ }
+    requires { ⌜ Fits63 (sumF (pairs n) edges (partsPair (parentOf (now parents))) (entryAt (now distances)) (pos d) (entryOf (now numerators))) ⌝ }
+    requires { ⌜ Fits63 (sumR (pairs n) edges (partsPair (parentOf (now parents))) (entryAt (now distances)) (entryOf (now lengths))) ⌝ }
+    requires { ⌜ Fits63 (sumH (pairs n) edges (partsPair (parentOf (now parents)))) ⌝ }
+    ensures { λ s. ⌜ s .f ≡ sumF (pairs n) edges (partsPair (parentOf (now (parents .entry)))) (entryAt (now (distances .entry))) (pos d) (entryOf (now (numerators .entry))) ⌝ }
+    ensures { λ s. ⌜ s .r ≡ sumR (pairs n) edges (partsPair (parentOf (now (parents .entry)))) (entryAt (now (distances .entry))) (entryOf (now (lengths .entry))) ⌝ }
+    ensures { λ s. ⌜ s .h ≡ sumH (pairs n) edges (partsPair (parentOf (now (parents .entry)))) ⌝ }
+{
+    let mut taken = taken_off(n, edges, distances, parents);
+    let f = f_of(n, edges, d, distances, parents, numerators, &taken);
+    Figures {
+        f,
+        r: r_of(n, edges, distances, parents, lengths, &mut taken),
+        h: h_of(n, edges, parents),
+    }
+}

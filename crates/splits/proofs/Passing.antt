@@ -1,11 +1,11 @@
--- The pass from the leaves up, one turn an edge. When vertex v's turn comes, a vertex from v on has the cut of the strains that stand there,
--- so v itself has its edge's split sum, and its parent gets the cut of both sets together.
--- `pass-start` starts it, `pass-turn` is one turn, `pass-end` its end.
+-- The pass from the leaves up, one turn an edge. When vertex v's turn comes, an edge from v on has the cut of the strains that stand there,
+-- so v itself has its split sum, which it keeps, since a parent is greater. Its parent gets the cut of both sets together, but for the root.
+-- `pass-start` starts it, `pass-turn` is one turn and `pass-root` one below the root, `pass-end` its end.
 use mathlib.Core.Path.{_≡_, refl, sym, ap, ap₂, subst, _∙_}
 use mathlib.Core.Bool.{Bool, true, true≢false}
 use mathlib.Core.List.{List}
 use mathlib.Core.Logic.{_≢_}
-use Prim.Native.Nat.{ℕ, suc, _+_, _*_, _≤_, _<_, _^_}
+use Prim.Native.Nat.{ℕ, suc, _+_, _*_, _≤_, _<_}
 use native.Mathlib.Decide.{ℕ-discrete, decLt}
 use native.Mathlib.Numerals.{add-one}
 use native.Mathlib.Omega.{arith}
@@ -17,9 +17,8 @@ use lib.Seq.{getD-set-same, getD-set-other}
 use mir.Syntax.{w64}
 use mir.Val.{SFits, toZ, ofZ}
 use Rattle.exact.specs.Sum.{ind}
-use Rattle.exact.specs.Table.{table, entryOf}
+use Rattle.exact.specs.Table.{entryOf}
 use Rattle.exact.proofs.Decide.{by-cases, eq-yes}
-use Rattle.exact.proofs.Fill.{length-table, getD-table-const}
 use Rattle.exact.proofs.Ring.{*ℤ-oneˡ}
 use Rattle.exact.proofs.Sign.{natAbs-add, natAbs-sub, fits-abs, back}
 use Rattle.exact.proofs.Sum.{ind-yes}
@@ -27,7 +26,7 @@ use Rattle.exact.proofs.Sweep.{ind-one}
 use Rattle.matrix.specs.Limits.{maxStrains}
 use Rattle.matrix.specs.Place.{pairPlace}
 use Rattle.matrix.proofs.Places.{place-bound, pair-place-up, pair-place-down}
-use Rattle.tree_theory.specs.Limits.{maxEdges, maxVertices}
+use Rattle.tree_theory.specs.Limits.{maxEdges}
 use Rattle.tree_theory.specs.Chain.{parentOf, lift, below}
 use Rattle.tree_theory.specs.Cluster.{bitAt, mask}
 use Rattle.tree_theory.specs.EdgeTable.{EdgeTable}
@@ -37,17 +36,17 @@ use Rattle.clusters.proofs.Handing.{Handed, ownBits, hand-none, hand-more, own-
 use Rattle.direct_theory.proofs.Star.{link}
 use Rattle.splits.specs.Sums.{entryOfTwo, splitOf, Splittable, Rows, Apart}
 use Rattle.splits.proofs.Adding.{maxPart}
+use Rattle.splits.proofs.Rowing.{no-row}
 use Rattle.splits.proofs.Swapping.{across}
 use Rattle.splits.proofs.Cutting.{cut, cut-cong, cut-∪, cut-split, cut-one, cut-abs, link-abs, across-link}
 
-pub record Passing (N K : ℕ) (ds ps : List ℕ) (v : ℕ) (own : List ℤ) (come : List ℕ) (sums : List ℤ) : Type 0 where
+pub record Passing (N K : ℕ) (ds ps : List ℕ) (v : ℕ) (come : List ℕ) (sums : List ℤ) : Type 0 where
   pub here : v ≤ K
-  pub size : length own ≡ maxVertices
-  pub room : length sums ≡ maxEdges
+  pub size : length sums ≡ maxEdges
   pub held : Handed N (parentOf ps) v come
-  pub cuts : (w : ℕ) → v ≤ w → entryOf own w ≡ cut N ds (λ i. ind (seen (parentOf ps) v i w))
   pub done : (u : ℕ) → u < v → entryOf sums u ≡ splitOf N ds (parentOf ps) u
-  pub rest : (u : ℕ) → v ≤ u → entryOf sums u ≡ pos 0
+  pub cuts : (u : ℕ) → v ≤ u → u < K → entryOf sums u ≡ cut N ds (λ i. ind (seen (parentOf ps) v i u))
+  pub rest : (u : ℕ) → K ≤ u → entryOf sums u ≡ pos 0
 
 -- a strain of a mask
 in-mask : (N k : ℕ) (b : ℕ → Bool) (i : ℕ) → k ≡ mask N b → bitAt k i ≡ true → (i < N) × (b i ≡ true)
@@ -71,22 +70,21 @@ module _ {N K : ℕ} {ds ps : List ℕ} (w : Splittable N K ds ps) where
   pub few-edges : K ≤ maxEdges
   few-edges = omega (arith, w .allowed .few, w .allowed .most)
 
-  pub pass-start : (own : List ℤ) (come : List ℕ) (sums : List ℤ) → Rows N ds own → come ≡ ownBits N → sums ≡ table maxEdges (λ _. pos 0) → Passing N K ds ps 0 own come sums
-  pass-start own come sums r e f = record {
+  pub pass-start : (come : List ℕ) (sums : List ℤ) → Rows N ds sums → come ≡ ownBits N → Passing N K ds ps 0 come sums
+  pass-start come sums r e = record {
     here = omega arith;
     size = r .size;
-    room = ap length f ∙ length-table maxEdges (λ _. pos 0);
     held = hand-none N par (omega (arith, few)) come e;
-    cuts = λ u _. r .entries u ∙ cut-one N ds u ∙ cut-cong N ds (λ i. ind (eqb i u)) (λ i. ind (seen par 0 i u)) (λ i _. sym (ap ind (seen-start par i u)));
     done = λ u h. absurd (omega arith);
-    rest = λ u _. ap (λ l. entryOf l u) f ∙ getD-table-const maxEdges (pos 0) u;
+    cuts = λ u _ _. r .entries u ∙ cut-one N ds u ∙ cut-cong N ds (λ i. ind (eqb i u)) (λ i. ind (seen par 0 i u)) (λ i _. sym (ap ind (seen-start par i u)));
+    rest = λ u h. r .entries u ∙ no-row N ds u (omega (arith, w .allowed .edges));
   }
 
-  pub pass-end : {v : ℕ} {own : List ℤ} {come : List ℕ} {sums : List ℤ} → K ≤ v → Passing N K ds ps v own come sums → EdgeTable K (splitOf N ds par) sums
-  pass-end h g = record { size = g .room; entries = λ u l. g .done u (omega arith); rest = λ u l. g .rest u (omega (arith, g .here)) }
+  pub pass-end : {v : ℕ} {come : List ℕ} {sums : List ℤ} → K ≤ v → Passing N K ds ps v come sums → EdgeTable K (splitOf N ds par) sums
+  pass-end h g = record { size = g .size; entries = λ u l. g .done u (omega arith); rest = g .rest }
 
   -- ---- one turn
-  module _ {v : ℕ} {own : List ℤ} {come : List ℕ} {sums : List ℤ} (g : Passing N K ds ps v own come sums) (edge : v < K) where
+  module _ {v : ℕ} {come : List ℕ} {sums : List ℤ} (g : Passing N K ds ps v come sums) (edge : v < K) where
     abbrev m : ℕ
     m = par v
 
@@ -126,29 +124,51 @@ module _ {N K : ℕ} {ds ps : List ℕ} (w : Splittable N K ds ps) where
         let n : i ≢ j = λ e. omega (arith, up, b .1, ap (lift par v) e, a .1) in
         (n, slot i j (a .0) (b .0) n)
 
-    -- ---- what is at v, at its parent, and between them
-    own-here : entryOf own v ≡ cut N ds (bit par v)
-    own-here = g .cuts v (omega arith) ∙ cut-cong N ds (λ i. ind (seen par v i v)) (bit par v) (λ i _. ap ind (seen-done par i v))
+    -- ---- what is at v
+    at-v : entryOf sums v ≡ cut N ds (bit par v)
+    at-v = g .cuts v (omega arith) edge ∙ cut-cong N ds (λ i. ind (seen par v i v)) (bit par v) (λ i _. ap ind (seen-done par i v))
 
-    own-there : entryOf own m ≡ cut N ds (λ i. ind (seen par v i m))
-    own-there = g .cuts m (omega (arith, up))
+    v-abs : natAbs (entryOf sums v) ≤ maxStrains * maxPart
+    v-abs = omega (arith, ap natAbs at-v, cut-abs N ds few (w .near) (λ i. below par i v))
 
-    here-abs : natAbs (entryOf own v) ≤ maxStrains * maxPart
-    here-abs = omega (arith, ap natAbs own-here, cut-abs N ds few (w .near) (λ i. below par i v))
+    -- ---- the turn, by what is at the parent after it
+    turned : (new : List ℤ) → length new ≡ maxEdges → ((u : ℕ) → u ≢ m → entryOf new u ≡ entryOf sums u)
+        → (m < K → entryOf new m ≡ cut N ds (λ i. ind (seen par (suc v) i m))) → (K ≤ m → entryOf new m ≡ pos 0)
+        → Passing N K ds ps (v + 1) (set come m (bitOr there here)) new
+    turned new size same inner root = rw add-one (record {
+      here = edge;
+      size = size;
+      held = subst (λ (k : ℕ). Handed N par k (set come m (bitOr there here))) (add-one v) (hand-more N par v come up (omega (arith, parent-low)) (g .held));
+      done = λ u h. same u (λ q. omega (arith, up)) ∙ by-cases (ℕ-discrete u v)
+          (λ e. rw e (at-v ∙ sym (cut-split N ds par v)))
+          (λ e. g .done u (omega arith));
+      cuts = λ u h l. by-cases (ℕ-discrete u m)
+          (λ e. rw e (inner (omega arith)))
+          (λ e. same u e ∙ g .cuts u (omega arith) l
+          ∙ cut-cong N ds (λ i. ind (seen par v i u)) (λ i. ind (seen par (suc v) i u)) (λ i _. ap ind (sym (seen-off par v i u h (λ q. e (sym q))))));
+      rest = λ u h. by-cases (ℕ-discrete u m)
+          (λ e. rw e (root (omega arith)))
+          (λ e. same u e ∙ g .rest u h);
+    })
 
-    there-abs : natAbs (entryOf own m) ≤ maxStrains * maxPart
-    there-abs = omega (arith, ap natAbs own-there, cut-abs N ds few (w .near) (λ i. seen par v i m))
+    -- below the root nothing is added
+    pub pass-root : K ≤ m → Passing N K ds ps (v + 1) (set come m (bitOr there here)) sums
+    pass-root l = turned sums (g .size) (λ u _. refl) (λ k. absurd (omega arith)) (g .rest m)
 
-    pub whole-back : toZ w64 (ofZ w64 (entryOf own v)) ≡ entryOf own v
-    whole-back = back (entryOf own v) (omega (arith, here-abs))
-
+    -- ---- what is at the parent, and between them
     abbrev between : ℤ
     between = link N (entryOfTwo ds) (bit par v) (λ i. ind (seen par v i m))
 
     between-abs : natAbs between ≤ maxStrains * maxPart
     between-abs = link-abs N ds few (w .near) (bit par v) (λ i. ind (seen par v i m)) (λ i. ind-one (below par i v)) (λ i. ind-one (seen par v i m))
 
-    module _ {x : ℤ} (ex : x ≡ across ds here there) where
+    module _ (low : m < K) {x : ℤ} (ex : x ≡ across ds here there) where
+      at-m : entryOf sums m ≡ cut N ds (λ i. ind (seen par v i m))
+      at-m = g .cuts m (omega (arith, up)) low
+
+      m-abs : natAbs (entryOf sums m) ≤ maxStrains * maxPart
+      m-abs = omega (arith, ap natAbs at-m, cut-abs N ds few (w .near) (λ i. seen par v i m))
+
       abbrev met : ℤ
       met = toZ w64 (ofZ w64 x)
 
@@ -160,13 +180,13 @@ module _ {N K : ℕ} {ds ps : List ℕ} (w : Splittable N K ds ps) where
       met-abs = omega (arith, ap natAbs met-is, between-abs)
 
       abbrev both : ℤ
-      both = toZ w64 (ofZ w64 (entryOf own m)) +ℤ toZ w64 (ofZ w64 (entryOf own v))
+      both = toZ w64 (ofZ w64 (entryOf sums m)) +ℤ toZ w64 (ofZ w64 (entryOf sums v))
 
-      both-is : both ≡ entryOf own m +ℤ entryOf own v
-      both-is = ap₂ _+ℤ_ (back (entryOf own m) (omega (arith, there-abs))) whole-back
+      both-is : both ≡ entryOf sums m +ℤ entryOf sums v
+      both-is = ap₂ _+ℤ_ (back (entryOf sums m) (omega (arith, m-abs))) (back (entryOf sums v) (omega (arith, v-abs)))
 
       both-abs : natAbs both ≤ 2 * (maxStrains * maxPart)
-      both-abs = omega (arith, ap natAbs both-is, natAbs-add (entryOf own m) (entryOf own v), here-abs, there-abs)
+      both-abs = omega (arith, ap natAbs both-is, natAbs-add (entryOf sums m) (entryOf sums v), v-abs, m-abs)
 
       pub both-fits : SFits w64 both
       both-fits = fits-abs both (omega (arith, both-abs))
@@ -198,22 +218,12 @@ module _ {N K : ℕ} {ds ps : List ℕ} (w : Splittable N K ds ps) where
       -- the parent has the cut of both sets together
       at-parent : toZ w64 (ofZ w64 twice) ≡ cut N ds (λ i. ind (seen par (suc v) i m))
       at-parent = back twice (omega (arith, twice-abs)) ∙ twice-is ∙ ap (λ y. y -ℤ met) once-is
-          ∙ ap₂ (λ y z. y -ℤ z -ℤ z) (both-is ∙ ap₂ _+ℤ_ own-there own-here) met-is
+          ∙ ap₂ (λ y z. y -ℤ z -ℤ z) (both-is ∙ ap₂ _+ℤ_ at-m at-v) met-is
           ∙ sym (cut-∪ N ds (λ i. ind (seen par v i m)) (bit par v))
           ∙ cut-cong N ds (λ i. ind (seen par v i m) +ℤ bit par v i) (λ i. ind (seen par (suc v) i m)) (λ i _. sym (joined par v i up))
 
-      pub pass-turn : Passing N K ds ps (v + 1) (set own m (toZ w64 (ofZ w64 twice))) (set come m (bitOr there here)) (set sums v (toZ w64 (ofZ w64 (entryOf own v))))
-      pass-turn = rw add-one (record {
-        here = edge;
-        size = simp length-set (g .size);
-        room = simp length-set (g .room);
-        held = subst (λ (k : ℕ). Handed N par k (set come m (bitOr there here))) (add-one v) (hand-more N par v come up (omega (arith, parent-low)) (g .held));
-        cuts = λ u h. by-cases (ℕ-discrete u m)
-            (λ e. rw e (getD-set-same own m (toZ w64 (ofZ w64 twice)) (pos 0) (omega (arith, g .size, parent-low)) ∙ at-parent))
-            (λ e. getD-set-other own m u (toZ w64 (ofZ w64 twice)) (pos 0) e ∙ g .cuts u (omega arith)
-            ∙ cut-cong N ds (λ i. ind (seen par v i u)) (λ i. ind (seen par (suc v) i u)) (λ i _. ap ind (sym (seen-off par v i u h (λ q. e (sym q))))));
-        done = λ u h. by-cases (ℕ-discrete u v)
-            (λ e. rw e (getD-set-same sums v (toZ w64 (ofZ w64 (entryOf own v))) (pos 0) (omega (arith, g .room, few-edges)) ∙ whole-back ∙ own-here ∙ sym (cut-split N ds par v)))
-            (λ e. getD-set-other sums v u (toZ w64 (ofZ w64 (entryOf own v))) (pos 0) e ∙ g .done u (omega arith));
-        rest = λ u h. getD-set-other sums v u (toZ w64 (ofZ w64 (entryOf own v))) (pos 0) (λ q. omega arith) ∙ g .rest u (omega arith);
-      })
+      pub pass-turn : Passing N K ds ps (v + 1) (set come m (bitOr there here)) (set sums m (toZ w64 (ofZ w64 twice)))
+      pass-turn = turned (set sums m (toZ w64 (ofZ w64 twice))) (simp length-set (g .size))
+          (λ u e. getD-set-other sums m u (toZ w64 (ofZ w64 twice)) (pos 0) e)
+          (λ _. getD-set-same sums m (toZ w64 (ofZ w64 twice)) (pos 0) (omega (arith, g .size, few-edges)) ∙ at-parent)
+          (λ l. absurd (omega arith))

@@ -6,21 +6,22 @@ use Prim.Native.Nat.{ℕ, suc, _+_, _*_, _≤_, _<_, _^_}
 use native.Mathlib.Numerals.{add-one}
 use native.Mathlib.Omega.{arith}
 use lib.Dec.{eqb}
-use lib.IntN.{ℤ, pos, natAbs, _+ℤ_, _*ℤ_, +ℤ-idr}
+use lib.IntN.{ℤ, pos, natAbs, _+ℤ_, _*ℤ_, +ℤ-idr, zero-*ℤ}
 use lib.ListN.{length, getD, set, length-set}
 use mir.Syntax.{w64}
 use mir.Val.{SFits, toZ, ofZ}
 use Rattle.exact.specs.Sum.{sum, pairs, ind}
 use Rattle.exact.specs.Table.{table, entryOf}
+use Rattle.exact.proofs.Decide.{eq-no}
 use Rattle.exact.proofs.Fill.{length-table, getD-table-const}
 use Rattle.exact.proofs.Quote.{by-ring, quote}
 use Rattle.exact.proofs.Ring.{*ℤ-distribʳ}
 use Rattle.exact.proofs.Sign.{natAbs-add, fits-abs, back}
-use Rattle.exact.proofs.Sum.{sum-0, sum-suc, sum-cong, sum-+, sum-*}
+use Rattle.exact.proofs.Sum.{sum-0, sum-suc, sum-cong, sum-+, sum-*, pairs-cong, pairs-sums, S-zero, ind-no}
 use Rattle.exact.proofs.Sweep.{sum-abs, chosen-sum-abs, ind-abs, pairs-abs}
 use Rattle.matrix.specs.Limits.{maxStrains, maxDistance}
 use Rattle.matrix.specs.Place.{pairCount, place}
-use Rattle.tree_theory.specs.Limits.{maxVertices}
+use Rattle.tree_theory.specs.Limits.{maxEdges}
 use Rattle.meeting.proofs.Putting.{set-add}
 use Rattle.splits.specs.Sums.{entryAt, inRow, maxRow, RowAdded, Rows}
 use Rattle.splits.proofs.Reading.{read-is}
@@ -28,11 +29,11 @@ use Rattle.splits.proofs.Reading.{read-is}
 -- the pairs of j with the strains below i are added
 pub record Rowing (ds : List ℕ) (j : ℕ) (old : List ℤ) (i : ℕ) (whole : ℤ) (own : List ℤ) : Type 0 where
   pub here : i ≤ j
-  pub size : length own ≡ maxVertices
+  pub size : length own ≡ maxEdges
   pub total : whole ≡ sum i (λ a. entryAt ds (a, j))
   pub entries : (w : ℕ) → entryOf own w ≡ entryOf old w +ℤ sum i (λ a. ind (eqb w a) *ℤ entryAt ds (a, j))
 
-pub row-start : (ds : List ℕ) (j : ℕ) (old : List ℤ) → length old ≡ maxVertices → Rowing ds j old 0 (pos 0) old
+pub row-start : (ds : List ℕ) (j : ℕ) (old : List ℤ) → length old ≡ maxEdges → Rowing ds j old 0 (pos 0) old
 row-start ds j old e = record {
   here = omega arith;
   size = e;
@@ -122,10 +123,10 @@ module _ {ds : List ℕ} (near : (k : ℕ) → getD ds k 0 ≤ maxDistance) {j :
           ∙ sum-cong j (λ a _. sym (*ℤ-distribʳ (ind (eqb w a)) (ind (eqb w j)) (entryAt ds (a, j)))))
 
 -- ---- column by column
-pub rows-none : (ds : List ℕ) (own : List ℤ) → own ≡ table maxVertices (λ _. pos 0) → Rows 0 ds own
+pub rows-none : (ds : List ℕ) (own : List ℤ) → own ≡ table maxEdges (λ _. pos 0) → Rows 0 ds own
 rows-none ds own e = record {
-  size = ap length e ∙ length-table maxVertices (λ _. pos 0);
-  entries = λ w. ap (λ l. entryOf l w) e ∙ getD-table-const maxVertices (pos 0) w ∙ sym (none w);
+  size = ap length e ∙ length-table maxEdges (λ _. pos 0);
+  entries = λ w. ap (λ l. entryOf l w) e ∙ getD-table-const maxEdges (pos 0) w ∙ sym (none w);
 }
   where
     none : (w : ℕ) → pairs 0 (inRow ds w) ≡ pos 0
@@ -149,3 +150,8 @@ rows-low {ds} {j} {own} near few r w = omega (arith, ap natAbs (r .entries w), p
       ind-abs (eqb w (p .1)) (entryAt ds p),
       near (place (p .0) (p .1)),
     )
+
+-- a vertex that is no strain has none
+pub no-row : (N : ℕ) (ds : List ℕ) (w : ℕ) → N ≤ w → pairs N (inRow ds w) ≡ pos 0
+no-row N ds w l = pairs-cong N (λ p k h. ap₂ (λ x y. (x +ℤ y) *ℤ entryAt ds p) (ind-no (eq-no {a = w} {b = p .0} (λ e. omega arith))) (ind-no (eq-no {a = w} {b = p .1} (λ e. omega arith))) ∙ zero-*ℤ (entryAt ds p))
+    ∙ S-zero (pairs-sums N)

@@ -1,6 +1,6 @@
 -- Of two masks that share no strain, either may be gone through strain by strain. The idea: what the table has for two strains does not ask
 -- which is named first, and two sums change places.
-use mathlib.Core.Path.{_≡_, sym, ap, ap₂, subst, _∙_}
+use mathlib.Core.Path.{_≡_, sym, ap, subst, _∙_}
 use mathlib.Core.Bool.{true}
 use mathlib.Core.List.{List, [], _∷_}
 use Prim.Native.Nat.{ℕ, _*_, _≤_, _<_}

@@ -3,15 +3,15 @@ use mathlib.Core.Path.{_≡_}
 use mathlib.Core.Bool.{true}
 use mathlib.Core.List.{List}
 use mathlib.Core.Logic.{_≢_}
-use Prim.Native.Nat.{ℕ, suc, _+_, _*_, _≤_, _<_}
+use Prim.Native.Nat.{ℕ, _*_, _≤_, _<_}
 use lib.Dec.{eqb}
-use lib.IntN.{ℤ, pos, natAbs, _+ℤ_, _*ℤ_}
+use lib.IntN.{ℤ, pos, _+ℤ_, _*ℤ_}
 use lib.ListN.{length, getD}
 use Rattle.exact.specs.Sum.{sum, pairs, ind}
 use Rattle.exact.specs.Table.{entryOf}
 use Rattle.matrix.specs.Limits.{maxDistance, maxPairs}
 use Rattle.matrix.specs.Place.{pairCount, place, pairPlace}
-use Rattle.tree_theory.specs.Limits.{maxVertices}
+use Rattle.tree_theory.specs.Limits.{maxEdges}
 use Rattle.tree_theory.specs.Chain.{parentOf, partsPair}
 use Rattle.tree_theory.specs.Allowed.{Allowed}
 use Rattle.tree_theory.specs.Cluster.{bitAt}
@@ -46,12 +46,12 @@ maxRow = maxPairs * (2 * maxDistance)
 
 -- the pairs of strain j with the strains before it are added to the rows of both
 pub record RowAdded (ds : List ℕ) (j : ℕ) (old new : List ℤ) : Type 0 where
-  pub size : length new ≡ maxVertices
+  pub size : length new ≡ maxEdges
   pub entries : (w : ℕ) → entryOf new w ≡ entryOf old w +ℤ sum j (λ a. inRow ds w (a, j))
 
 -- the row of every strain, and 0 for the vertices that are none
 pub record Rows (N : ℕ) (ds : List ℕ) (own : List ℤ) : Type 0 where
-  pub size : length own ≡ maxVertices
+  pub size : length own ≡ maxEdges
   pub entries : (w : ℕ) → entryOf own w ≡ pairs N (inRow ds w)
 
 -- ---- between strains

@@ -4,12 +4,12 @@ use tree::Tree;
 ghost use mathlib.Core.Path.{_≡_};
 ghost use mathlib.Core.Bool.{true};
 ghost use Prim.Native.Nat.{ℕ, _+_, _≤_, _<_};
-ghost use lib.IntN.{natAbs};
+ghost use lib.IntN.{pos, natAbs};
 ghost use lib.ListN.{length, getD};
-ghost use Rattle.exact.specs.Table.{entryOf};
+ghost use Rattle.exact.specs.Table.{table, entryOf};
 ghost use Rattle.matrix.specs.Limits.{maxStrains, maxDistance};
 ghost use Rattle.matrix.specs.Place.{pairCount};
-ghost use Rattle.tree_theory.specs.Limits.{maxVertices};
+ghost use Rattle.tree_theory.specs.Limits.{maxEdges};
 ghost use Rattle.tree_theory.specs.Chain.{parentOf};
 ghost use Rattle.tree_theory.specs.Cluster.{bitAt};
 ghost use Rattle.tree_theory.specs.EdgeTable.{EdgeTable};
@@ -17,10 +17,10 @@ ghost use Rattle.meeting.specs.Meeting.{over};
 ghost use Rattle.splits.specs.Sums.{entryOfTwo, splitOf, Splittable, maxRow, RowAdded, Rows, Apart};
 
 // Adds the pairs of strain j with the strains before it to the rows of both. Their numbers stand one behind the other, from `first` on.
-fn add_row(distances: &[u16], first: usize, j: usize, own: &mut [i64; Tree::MAX_VERTICES])
+fn add_row(distances: &[u16], first: usize, j: usize, own: &mut [i64; Tree::MAX_EDGES])
     requires { ⌜ (j < maxStrains) × (first ≡ pairCount j) × (first + j ≤ length (now distances)) ⌝ }
     requires { ⌜ ((k : ℕ) → getD (now distances) k 0 ≤ maxDistance) ⌝ }
-    requires { ⌜ (length (now own) ≡ maxVertices) × ((w : ℕ) → natAbs (entryOf (now own) w) ≤ maxRow) ⌝ }
+    requires { ⌜ (length (now own) ≡ maxEdges) × ((w : ℕ) → natAbs (entryOf (now own) w) ≤ maxRow) ⌝ }
     ensures { λ _. ⌜ RowAdded (now (distances .entry)) j (now (own .entry)) (now (own .exit)) ⌝ }
 {
     let mut whole: i64 = 0;
@@ -34,21 +34,20 @@ fn add_row(distances: &[u16], first: usize, j: usize, own: &mut [i64; Tree::MAX_
     own[j] = own[j] + whole;
 }
 
-// The row sum of every strain, 0 for the other vertices.
-fn totals(n: usize, distances: &[u16]) -> [i64; Tree::MAX_VERTICES]
+// Puts the row sum of every strain into zeros, which the other vertices keep.
+fn totals(n: usize, distances: &[u16], own: &mut [i64; Tree::MAX_EDGES])
     requires { ⌜ (n ≤ maxStrains) × (pairCount n ≤ length (now distances)) ⌝ }
     requires { ⌜ ((k : ℕ) → getD (now distances) k 0 ≤ maxDistance) ⌝ }
-    ensures { λ r. ⌜ Rows n (now (distances .entry)) r ⌝ }
+    requires { ⌜ now own ≡ table maxEdges (λ _. pos 0) ⌝ }
+    ensures { λ _. ⌜ Rows n (now (distances .entry)) (now (own .exit)) ⌝ }
 {
-    let mut own = meeting::no_shares();
     let mut j = 0;
     let mut first = 0;
     while j < n {
-        add_row(distances, first, j, &mut own);
+        add_row(distances, first, j, own);
         first += j;
         j += 1;
     }
-    own
 }
 
 // What the table has between strain j and the strains of a mask, which are all before j: their places follow each other.
@@ -130,28 +129,35 @@ fn crossed(distances: &[u16], here: u64, there: u64) -> i64
     rows_between(distances, each, others)
 }
 
-// For each edge what the table has for the pairs that it parts, added up, then zeros. One pass from the leaves up: at its turn a
-// vertex has all the strains below it, and its edge's sum. An outer edge has its strain's row sum (equation 9); an inner edge has its
-// children's sums together, less twice what is between different children's clusters (equation 14, and 10 for two children).
-pub fn splits(n: usize, edges: usize, distances: &[u16], parents: &[u8]) -> [i64; Tree::MAX_EDGES]
+// Puts into zeros, for each edge, what the table has for the pairs that it parts, added up. One pass from the leaves up: at its turn a
+// vertex has all the strains below it, and its edge's sum, which stays, since a parent is greater. An outer edge has its strain's row
+// sum (equation 9); an inner edge has its children's sums together, less twice what is between different children's clusters
+// (equation 14, and 10 for two children).
+pub fn splits(
+    n: usize,
+    edges: usize,
+    distances: &[u16],
+    parents: &[u8],
+    sums: &mut [i64; Tree::MAX_EDGES],
+)
     requires { ⌜ Splittable n edges (now distances) (now parents) ⌝ }
-    ensures { λ r. ⌜ EdgeTable edges (splitOf n (now (distances .entry)) (parentOf (now (parents .entry)))) r ⌝ }
+    requires { ⌜ now sums ≡ table maxEdges (λ _. pos 0) ⌝ }
+    ensures { λ _. ⌜ EdgeTable edges (splitOf n (now (distances .entry)) (parentOf (now (parents .entry)))) (now (sums .exit)) ⌝ }
 {
-    let mut own = totals(n, distances);
+    totals(n, distances, sums);
     let mut come = clusters::own_bits(n);
-    let mut sums = tree::edge_zeros();
     let mut v = 0;
     while v < edges {
         let here = come[v];
         let m = parents[v] as usize;
         let there = come[m];
-        // the strains that come up meet those that came from m's other children
-        let met = crossed(distances, here, there);
         come[m] = there | here;
-        let whole = own[v];
-        sums[v] = whole;
-        own[m] = own[m] + whole - met - met;
+        // the root has no edge, so nothing is crossed there
+        if m < edges {
+            // the strains that come up meet those that came from m's other children
+            let met = crossed(distances, here, there);
+            sums[m] = sums[m] + sums[v] - met - met;
+        }
         v += 1;
     }
-    sums
 }

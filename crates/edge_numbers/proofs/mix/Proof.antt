@@ -29,7 +29,7 @@ few : (c : tie.Start Inv-loop μ-loop) → c .args .edges ≤ maxEdges
 few c = c .pre .0 .0
 
 mul-blend : tie.Need-mul-blend Inv-loop μ-loop
-mul-blend c = record { fits = omega (arith, few (c .before .before) , c .loop-test .taken) }
+mul-blend c = record { fits = omega (arith, few (c .before .before), c .loop-test .taken) }
 
 element-copy-out-blend : tie.Need-element-copy-out-blend Inv-loop μ-loop
 element-copy-out-blend c = omega (arith, few (c .before .before), c .loop-test .taken)

@@ -1,128 +1,123 @@
--- `splits`: one edge a turn, whose strains meet those at its upper end.
+-- `splits`: one edge a turn, whose strains meet those at its upper end, but for the root.
+use mathlib.Core.Logic.{⊎-elim}
 use Prim.Native.Nat.{_-_}
 use native.Mathlib.Omega.{arith}
-use borrow.Author.Needs.{needs}
-use Rattle.splits.proofs.Passing.{Passing, few-edges, pass-start, pass-end, parent-low, met-apart, both-fits, once-fits, twice-fits, pass-turn}
+use Rattle.splits.proofs.Passing.{Passing, few-edges, pass-start, pass-end, parent-low, met-apart, both-fits, once-fits, twice-fits, pass-root, pass-turn}
 use Rattle.splits.proofs.splits.Statement.{statement}
 use Rattle.splits.proofs.splits.Tie as tie
 
 abbrev Inv-loop : tie.InvT-loop
-Inv-loop n edges distances parents own₀ come₀ sums₀ v₀ own come sums v = Passing n edges distances parents v own come sums
+Inv-loop n edges distances parents sums₀ come₀ v₀ sums come v = Passing n edges distances parents v come sums
 
 abbrev μ-loop : tie.MeasureT-loop
-μ-loop n edges distances parents own₀ come₀ sums₀ v₀ own come sums v = edges - v
+μ-loop n edges distances parents sums₀ come₀ v₀ sums come v = edges - v
 
 totals-requires : tie.Need-totals-requires Inv-loop μ-loop
-totals-requires c κs = let p = c .before .before .pre in ((p .allowed .few, p .held), p .near)
+totals-requires c κs = let p = c .before .before .before .pre in ((p .0 .allowed .few, p .0 .held), (p .0 .near, p .1))
 
 own-bits-requires : tie.Need-own-bits-requires Inv-loop μ-loop
-own-bits-requires c κs = c .before .before .before .pre .allowed .few
-
-edge-zeros-requires : tie.Need-edge-zeros-requires Inv-loop μ-loop
-edge-zeros-requires c κs = search needs
+own-bits-requires c κs = c .before .before .before .before .pre .0 .allowed .few
 
 loop-holds : tie.Need-loop-holds Inv-loop μ-loop
-loop-holds c = pass-start (c .before .before .before .before .before .pre) _ _ _ (c .before .before .totals .ensures) (c .before .own-bits .ensures) (c .edge-zeros .ensures)
+loop-holds c = pass-start (c .before .before .before .before .before .pre .0) _ _ (c .before .totals .ensures) (c .own-bits .ensures)
 
 mul-here : tie.Need-mul-here Inv-loop μ-loop
-mul-here c = let p = c .before .before .before .before .before .before .before in omega (arith, c .loop-test .taken, few-edges (p .pre))
+mul-here c = omega (arith, c .loop-test .taken, few-edges (c .before .before .before .before .before .before .before .pre .0))
 
 array-read-here : tie.Need-array-read-here Inv-loop μ-loop
-array-read-here c = let p = c .before .before .before .before .before .before .before in omega (arith, c .loop-test .taken, few-edges (p .pre))
+array-read-here c = omega (arith, c .loop-test .taken, few-edges (c .before .before .before .before .before .before .before .pre .0))
 
 shared-slice-read-m : tie.Need-shared-slice-read-m Inv-loop μ-loop
-shared-slice-read-m c = omega (arith, c .before .loop-test .taken, c .before .before .before .before .before .before .before .before .pre .room)
+shared-slice-read-m c = omega (arith, c .before .loop-test .taken, c .before .before .before .before .before .before .before .before .pre .0 .room)
 
 cast-m : tie.Need-cast-m Inv-loop μ-loop
 cast-m c = let l = c .before .before in
     let p = l .before .before .before .before .before .before in
-    omega (arith, parent-low (p .pre) (l .loop .inv) (c .before .loop-test .taken))
+    omega (arith, parent-low (p .pre .0) (l .loop .inv) (c .before .loop-test .taken))
 
 mul-there : tie.Need-mul-there Inv-loop μ-loop
 mul-there c = let l = c .before .before in
     let p = l .before .before .before .before .before .before in
-    omega (arith, parent-low (p .pre) (l .loop .inv) (c .before .loop-test .taken))
+    omega (arith, parent-low (p .pre .0) (l .loop .inv) (c .before .loop-test .taken))
 
 array-read-there : tie.Need-array-read-there Inv-loop μ-loop
 array-read-there c = let l = c .before .before in
     let p = l .before .before .before .before .before .before in
-    omega (arith, parent-low (p .pre) (l .loop .inv) (c .before .loop-test .taken))
-
-crossed-requires : tie.Need-crossed-requires Inv-loop μ-loop
-crossed-requires c κs = let l = c .before .before in
-    let p = l .before .before .before .before .before .before in
-    (met-apart (p .pre) (l .loop .inv) (c .before .loop-test .taken), p .pre .near)
+    omega (arith, parent-low (p .pre .0) (l .loop .inv) (c .before .loop-test .taken))
 
 mul-come : tie.Need-mul-come Inv-loop μ-loop
-mul-come c = let l = c .before .before .before in
+mul-come c = let l = c .before .before in
     let p = l .before .before .before .before .before .before in
-    omega (arith, parent-low (p .pre) (l .loop .inv) (c .before .before .loop-test .taken))
+    omega (arith, parent-low (p .pre .0) (l .loop .inv) (c .before .loop-test .taken))
 
 array-write-come : tie.Need-array-write-come Inv-loop μ-loop
-array-write-come c = let l = c .before .before .before in
+array-write-come c = let l = c .before .before in
     let p = l .before .before .before .before .before .before in
-    omega (arith, parent-low (p .pre) (l .loop .inv) (c .before .before .loop-test .taken))
+    omega (arith, parent-low (p .pre .0) (l .loop .inv) (c .before .loop-test .taken))
 
-mul-whole : tie.Need-mul-whole Inv-loop μ-loop
-mul-whole c = let p = c .before .before .before .before .before .before .before .before .before in omega (arith, c .before .before .loop-test .taken, few-edges (p .pre))
-
-array-copy-out-whole : tie.Need-array-copy-out-whole Inv-loop μ-loop
-array-copy-out-whole c = let p = c .before .before .before .before .before .before .before .before .before in omega (arith, c .before .before .loop-test .taken, few-edges (p .pre))
+crossed-requires : tie.Need-crossed-requires Inv-loop μ-loop
+crossed-requires c κs = let l = c .before .before .before in
+    let p = l .before .before .before .before .before .before in
+    (met-apart (p .pre .0) (l .loop .inv) (c .before .before .loop-test .taken), p .pre .0 .near)
 
 mul-sums : tie.Need-mul-sums Inv-loop μ-loop
-mul-sums c = let p = c .before .before .before .before .before .before .before .before .before .before in omega (arith, c .before .before .before .loop-test .taken, few-edges (p .pre))
-
-array-set-from-sums : tie.Need-array-set-from-sums Inv-loop μ-loop
-array-set-from-sums c = let p = c .before .before .before .before .before .before .before .before .before .before in omega (arith, c .before .before .before .loop-test .taken, few-edges (p .pre))
-
-mul-own : tie.Need-mul-own Inv-loop μ-loop
-mul-own c = let l = c .before .before .before .before in
+mul-sums c = let l = c .before .before .before .before in
     let p = l .before .before .before .before .before .before in
-    omega (arith, parent-low (p .pre) (l .loop .inv) (c .before .before .before .loop-test .taken))
+    omega (arith, c .before .if1 .taken, few-edges (p .pre .0))
 
-array-copy-out-own : tie.Need-array-copy-out-own Inv-loop μ-loop
-array-copy-out-own c = let l = c .before .before .before .before in
+element-copy-out-sums : tie.Need-element-copy-out-sums Inv-loop μ-loop
+element-copy-out-sums c = let l = c .before .before .before .before in
     let p = l .before .before .before .before .before .before in
-    omega (arith, parent-low (p .pre) (l .loop .inv) (c .before .before .before .loop-test .taken))
+    omega (arith, c .before .if1 .taken, few-edges (p .pre .0))
 
-add-own : tie.Need-add-own Inv-loop μ-loop
-add-own c = let l = c .before .before .before .before .before in
-    let p = l .before .before .before .before .before .before in
-    both-fits (p .pre) (l .loop .inv) (c .before .before .before .before .loop-test .taken) (c .before .before .crossed .ensures)
+mul-sums-2 : tie.Need-mul-sums-2 Inv-loop μ-loop
+mul-sums-2 c = omega (arith, c .before .before .before .before .loop-test .taken, few-edges (c .before .before .before .before .before .before .before .before .before .before .before .pre .0))
 
-sub-own : tie.Need-sub-own Inv-loop μ-loop
-sub-own c = let l = c .before .before .before .before .before in
-    let p = l .before .before .before .before .before .before in
-    once-fits (p .pre) (l .loop .inv) (c .before .before .before .before .loop-test .taken) (c .before .before .crossed .ensures)
+element-copy-out-sums-2 : tie.Need-element-copy-out-sums-2 Inv-loop μ-loop
+element-copy-out-sums-2 c = omega (arith, c .before .before .before .before .loop-test .taken, few-edges (c .before .before .before .before .before .before .before .before .before .before .before .pre .0))
 
-sub-own-2 : tie.Need-sub-own-2 Inv-loop μ-loop
-sub-own-2 c = let l = c .before .before .before .before .before in
+add-sums : tie.Need-add-sums Inv-loop μ-loop
+add-sums c = let l = c .before .before .before .before .before .before in
     let p = l .before .before .before .before .before .before in
-    twice-fits (p .pre) (l .loop .inv) (c .before .before .before .before .loop-test .taken) (c .before .before .crossed .ensures)
+    both-fits (p .pre .0) (l .loop .inv) (c .before .before .before .before .before .loop-test .taken) (c .before .before .before .if1 .taken) (c .before .before .crossed .ensures)
 
-mul-own-2 : tie.Need-mul-own-2 Inv-loop μ-loop
-mul-own-2 c = let l = c .before .before .before .before .before in
+sub-sums : tie.Need-sub-sums Inv-loop μ-loop
+sub-sums c = let l = c .before .before .before .before .before .before in
     let p = l .before .before .before .before .before .before in
-    omega (arith, parent-low (p .pre) (l .loop .inv) (c .before .before .before .before .loop-test .taken))
+    once-fits (p .pre .0) (l .loop .inv) (c .before .before .before .before .before .loop-test .taken) (c .before .before .before .if1 .taken) (c .before .before .crossed .ensures)
 
-array-set-from-own : tie.Need-array-set-from-own Inv-loop μ-loop
-array-set-from-own c = let l = c .before .before .before .before .before in
+sub-sums-2 : tie.Need-sub-sums-2 Inv-loop μ-loop
+sub-sums-2 c = let l = c .before .before .before .before .before .before in
     let p = l .before .before .before .before .before .before in
-    omega (arith, parent-low (p .pre) (l .loop .inv) (c .before .before .before .before .loop-test .taken))
+    twice-fits (p .pre .0) (l .loop .inv) (c .before .before .before .before .before .loop-test .taken) (c .before .before .before .if1 .taken) (c .before .before .crossed .ensures)
+
+mul-t37 : tie.Need-mul-t37 Inv-loop μ-loop
+mul-t37 c = let l = c .before .before .before .before .before .before in
+    let p = l .before .before .before .before .before .before in
+    omega (arith, c .before .before .before .if1 .taken, few-edges (p .pre .0))
+
+element-set-from-sums : tie.Need-element-set-from-sums Inv-loop μ-loop
+element-set-from-sums c = let l = c .before .before .before .before .before .before in
+    let p = l .before .before .before .before .before .before in
+    omega (arith, c .before .before .before .if1 .taken, few-edges (p .pre .0))
 
 add-v : tie.Need-add-v Inv-loop μ-loop
-add-v c = let p = c .before .before .before .before .before .before .before .before .before .before .before in omega (arith, c .before .before .before .before .loop-test .taken, few-edges (p .pre))
+add-v c = omega (arith, c .before .before .loop-test .taken, few-edges (c .before .before .before .before .before .before .before .before .before .pre .0))
 
 loop-less : tie.Need-loop-less Inv-loop μ-loop
-loop-less c = omega (arith, c .before .before .before .before .loop-test .taken)
+loop-less c = omega (arith, c .before .before .loop-test .taken)
 
 loop-again : tie.Need-loop-again Inv-loop μ-loop
-loop-again c = let l = c .before .before .before .before .before in
+loop-again c = let l = c .before .before .before in
     let p = l .before .before .before .before .before .before in
-    pass-turn (p .pre) (l .loop .inv) (c .before .before .before .before .loop-test .taken) (c .before .before .crossed .ensures)
+    let turn = c .before .before .loop-test .taken in
+    ⊎-elim
+    (λ x. rw (x .4) (pass-turn (p .pre .0) (l .loop .inv) turn (x .0 .taken) (x .1 .ensures)))
+    (λ x. rw (x .1) (pass-root (p .pre .0) (l .loop .inv) turn (x .0 .left)))
+    (c .if1 .came)
 
 returns : tie.Need-returns Inv-loop μ-loop
-returns c = pass-end (c .before .before .before .before .before .before .before .pre) (c .loop-test .left) (c .before .loop .inv)
+returns c = pass-end (c .before .before .before .before .before .before .before .pre .0) (c .loop-test .left) (c .before .loop .inv)
 
 pub splits-spec : {M : Type 1} → statement M
 splits-spec =
@@ -132,7 +127,6 @@ splits-spec =
     μ-loop
     totals-requires
     own-bits-requires
-    edge-zeros-requires
     loop-holds
     mul-here
     array-read-here
@@ -140,20 +134,18 @@ splits-spec =
     cast-m
     mul-there
     array-read-there
-    crossed-requires
     mul-come
     array-write-come
-    mul-whole
-    array-copy-out-whole
+    crossed-requires
     mul-sums
-    array-set-from-sums
-    mul-own
-    array-copy-out-own
-    add-own
-    sub-own
-    sub-own-2
-    mul-own-2
-    array-set-from-own
+    element-copy-out-sums
+    mul-sums-2
+    element-copy-out-sums-2
+    add-sums
+    sub-sums
+    sub-sums-2
+    mul-t37
+    element-set-from-sums
     add-v
     loop-less
     loop-again

@@ -3,7 +3,6 @@ use mathlib.Core.Path.{_≡_, refl, sym, ap, subst, _∙_}
 use Prim.Native.Nat.{ℕ, _+_, _-_, _≤_}
 use native.Mathlib.Numerals.{add-one}
 use native.Mathlib.Omega.{arith}
-use borrow.Author.Needs.{needs}
 use Rattle.matrix.specs.Place.{pairCount}
 use Rattle.matrix.proofs.Places.{count-room, count-more, pairs-few}
 use Rattle.splits.specs.Sums.{Rows}
@@ -17,28 +16,25 @@ Inv-loop n distances own₀ j₀ first₀ own j first = (j ≤ n) × (first ≡ 
 abbrev μ-loop : tie.MeasureT-loop
 μ-loop n distances own₀ j₀ first₀ own j first = n - j
 
-no-shares-requires : tie.Need-no-shares-requires Inv-loop μ-loop
-no-shares-requires c κs = search needs
-
 loop-holds : tie.Need-loop-holds Inv-loop μ-loop
-loop-holds c = (omega arith, refl, rows-none (c .before .before .args .distances .now) (c .no-shares .result) (c .no-shares .ensures))
+loop-holds c = (omega arith, refl, rows-none (c .before .args .distances .now) (c .before .args .own .now) (c .before .pre .1 .1))
 
 add-row-requires : tie.Need-add-row-requires Inv-loop μ-loop
 add-row-requires c κs = let l = c .before .before in
-    let p = l .before .before .before in
+    let p = l .before .before in
     let turn = c .before .loop-test .taken in
     let inv = l .loop .inv in (
       (omega (arith, turn, p .pre .0 .0), inv .1, omega (arith, inv .1, p .pre .0 .1, count-room (p .args .n) (l .loop .j) turn)),
-      (p .pre .1, (inv .2 .size, rows-low (p .pre .1) (omega (arith, turn, p .pre .0 .0)) (inv .2))),
+      (p .pre .1 .0, (inv .2 .size, rows-low (p .pre .1 .0) (omega (arith, turn, p .pre .0 .0)) (inv .2))),
     )
 
 add-first : tie.Need-add-first Inv-loop μ-loop
 add-first c = let l = c .before .before .before in
-    let p = l .before .before .before in
+    let p = l .before .before in
     omega (arith, l .loop .inv .1, count-room (p .args .n) (l .loop .j) (c .before .before .loop-test .taken), pairs-few (p .args .n) (p .pre .0 .0))
 
 add-j : tie.Need-add-j Inv-loop μ-loop
-add-j c = omega (arith, c .before .before .loop-test .taken, c .before .before .before .before .before .before .pre .0 .0)
+add-j c = omega (arith, c .before .before .loop-test .taken, c .before .before .before .before .before .pre .0 .0)
 
 loop-less : tie.Need-loop-less Inv-loop μ-loop
 loop-less c = omega (arith, c .before .before .loop-test .taken)
@@ -53,7 +49,7 @@ loop-again c = let l = c .before .before .before in
 
 returns : tie.Need-returns Inv-loop μ-loop
 returns c = let l = c .before in
-    let p = l .before .before .before in
+    let p = l .before .before in
     let e : l .loop .j ≡ p .args .n = omega (arith, l .loop .inv .0, c .loop-test .left) in
     subst (λ (k : ℕ). Rows k (p .args .distances .now) (l .loop .own)) e (l .loop .inv .2)
 
@@ -63,7 +59,6 @@ totals-spec =
     (tie.spec
     Inv-loop
     μ-loop
-    no-shares-requires
     loop-holds
     add-row-requires
     add-first
