@@ -11,7 +11,8 @@ ghost use Rattle.fit_theory.specs.Stands.{Posted};
 ghost use Rattle.fit_theory.specs.Tests.{sumsTests, proposalTests};
 ghost use Rattle.judging.specs.Answers.{JudgeAnswer};
 
-// 14, 23: for some edge the remainders over the pairs that it parts do not add to what the rule asks.
+// 14, 23: for some edge the remainders over the pairs that it parts do not add to what the rule asks. Where no pair is missing the sums come
+// edge by edge from split sums and path sums, else pair by pair.
 fn check_sums(
     rule: Rule,
     n: usize,
@@ -25,8 +26,13 @@ fn check_sums(
     ensures { λ r. ⌜ answerOf r ≡ sumsTests rule n (now (distances .entry)) (now (parents .entry)) d (now (numerators .entry)) ⌝ }
 {
     let edges = parents.len();
-    let masks = clusters::clusters(n, parents);
-    let sums = edge_sums::edge_sums(n, edges, d, distances, parents, &masks, numerators);
+    if matrix::some_missing(distances) {
+        let masks = clusters::clusters(n, parents);
+        let sums = edge_sums::edge_sums(n, edges, d, distances, parents, &masks, numerators);
+        return balancing::balance(rule, edges, &sums, numerators);
+    }
+    let mut sums = tree::edge_zeros();
+    edge_numbers::remainders(n, edges, d, distances, parents, numerators, &mut sums);
     balancing::balance(rule, edges, &sums, numerators)
 }
 
