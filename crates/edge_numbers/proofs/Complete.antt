@@ -4,18 +4,18 @@ use mathlib.Core.Path.{_≡_, ap, ap₂, subst, fun-ext}
 use mathlib.Core.Bool.{Bool}
 use mathlib.Core.List.{List}
 use Prim.Native.Nat.{ℕ, _≤_}
-use lib.IntN.{ℤ, pos}
+use lib.IntN.{ℤ, pos, _*ℤ_}
 use lib.ListN.{length, getD}
-use Rattle.exact.specs.Sum.{pairs}
+use Rattle.exact.specs.Sum.{pairs, ind}
 use Rattle.exact.specs.LeastSquares.{edgeSum, sumF, sumX, sumH}
 use Rattle.matrix.specs.Limits.{maxDistance}
 use Rattle.matrix.specs.Place.{pairCount, place, known, distance, Complete}
 use Rattle.matrix.proofs.Completes.{all-known}
 use Rattle.tree_theory.specs.Chain.{parentOf, partsPair}
 use Rattle.tree_theory.specs.Allowed.{Allowed}
-use Rattle.fit_theory.specs.Quantities.{partsIn}
+use Rattle.fit_theory.specs.Quantities.{partsIn, splitSum}
 use Rattle.fit_theory.proofs.Complete.{complete-parts}
-use Rattle.splits.specs.Sums.{entryAt, Splittable}
+use Rattle.splits.specs.Sums.{entryAt, splitOf, Splittable}
 
 module _ (ds ps : List ℕ) (all : Complete ds) where
   distances-are : distance ds ≡ entryAt ds
@@ -28,6 +28,9 @@ module _ (ds ps : List ℕ) (all : Complete ds) where
     -- whatever is said of the measured pairs and their distances
     as-table : (f : (ℕ → ℕ × ℕ → Bool) → (ℕ × ℕ → ℤ) → ℤ) → f (partsIn ds ps) (distance ds) ≡ f (partsPair (parentOf ps)) (entryAt ds)
     as-table f = ap₂ f (complete-parts ds ps all) distances-are
+
+    pub table-split : (v : ℕ) → splitSum N ds ps v ≡ splitOf N ds (parentOf ps) v
+    table-split v = as-table (λ A d. pairs N (λ p. ind (A v p) *ℤ d p))
 
     pub table-edge : (D : ℤ) (n : ℕ → ℤ) (v : ℕ) → edgeSum (pairs N) K (partsIn ds ps) (distance ds) D n v ≡ edgeSum (pairs N) K (partsPair (parentOf ps)) (entryAt ds) D n v
     table-edge D n v = as-table (λ A d. edgeSum (pairs N) K A d D n v)

@@ -18,10 +18,10 @@ ghost use Rattle.paths.specs.Standing.{Standing};
 ghost use Rattle.inner_paths.specs.Between.{Lengthened};
 ghost use Rattle.tables.specs.Answers.{SplitTable, SplitAnswer, PathsAnswer};
 
-// The split sum of each edge, then zeros. Over a denominator of 1 and no lengths a remainder is the distance itself,
-// so the steps of `edge_sums` are those of Bryant and Waddell (1998; RULES, Split sums by cases): an outer edge has its
+// The split sum of each edge, then zeros, by the steps of Bryant and Waddell (1998; RULES, Split sums by cases): an outer edge has its
 // strain's row sum (equation 9); an inner edge has its children's split sums together, less twice the distances between
-// different children's clusters (equation 14, and 10 for two children).
+// different children's clusters (equation 14, and 10 for two children). Where a pair is missing they are those of `edge_sums`: over a
+// denominator of 1 and no lengths a remainder is the distance itself.
 pub fn split(
     n: usize,
     distances: &[u16],
@@ -32,8 +32,13 @@ pub fn split(
     requires { ⌜ Standing n (length (now parents)) (now parents) (now masks) ⌝ }
     ensures { λ r. ⌜ SplitTable n (now (distances .entry)) (now (parents .entry)) r ⌝ }
 {
-    let none = tree::edge_zeros();
-    edge_sums::edge_sums(n, parents.len(), 1, distances, parents, masks, &none)
+    if matrix::some_missing(distances) {
+        let none = tree::edge_zeros();
+        return edge_sums::edge_sums(n, parents.len(), 1, distances, parents, masks, &none);
+    }
+    let mut sums = tree::edge_zeros();
+    splits::splits(n, parents.len(), distances, parents, &mut sums);
+    sums
 }
 
 // The first `edges` entries of a table, into a buffer of that size.
