@@ -1,17 +1,15 @@
 -- What a look at every distance keeps from turn to turn.
-use mathlib.Core.Path.{_≡_, refl, sym, _∙_, ap, ap₂}
-use mathlib.Core.Bool.{Bool, true, false, not, _||_, true≢false}
+use mathlib.Core.Path.{_≡_, refl, sym, _∙_, ap}
+use mathlib.Core.Bool.{Bool, true, false, not, _||_}
 use mathlib.Core.List.{List}
 use mathlib.Core.Logic.{_≢_}
 use Prim.Native.Nat.{ℕ, suc, _+_, _<_, _≤_}
 use native.Mathlib.Numerals.{add-one}
 use native.Mathlib.Omega.{arith}
-use borrow.Author.Count.{below-none, below-more}
 use borrow.Author.Tests.{lt-ltb, le-ltb, eq-eqb, ne-eqb}
 use lib.Dec.{eqb, ltb}
 use lib.ListN.{length, getD}
 use Rattle.verdict.specs.Table.{some}
-use Rattle.verdict.proofs.Table.{some-yes, some-no}
 use Rattle.matrix.specs.Limits.{maxDistance, missing}
 use Rattle.matrix.specs.Place.{isMeasured, known, someMissing}
 use Rattle.matrix.specs.Tests.{distanceOut}
@@ -50,48 +48,49 @@ known-none x e = rw e
 near-measured : (x : ℕ) → x ≤ maxDistance → isMeasured x ≡ true
 near-measured x h = ap not (ne-eqb x missing (omega arith))
 
--- ---- the first k are in range, and `gone` says whether one of them is missing
-pub record Looking (ds : List ℕ) (gone : Bool) (k : ℕ) : Type 0 where
+-- ---- of the first k: `out` says whether one is out of range, and `gone` whether one is missing
+pub record Looking (ds : List ℕ) (out gone : Bool) (k : ℕ) : Type 0 where
   pub here : k ≤ length ds
-  pub within : (i : ℕ) → i < k → ltb maxDistance (known (getD ds i 0)) ≡ false
+  pub out-is : out ≡ some k (λ i. ltb maxDistance (known (getD ds i 0)))
   pub gone-is : gone ≡ some k (λ i. not (isMeasured (getD ds i 0)))
 
+or-false : (b c : Bool) → c ≡ false → b ≡ b || c
+or-false true c e = refl
+or-false false c e = sym e
+
+or-true : (b c : Bool) → c ≡ true → true ≡ b || c
+or-true true c e = refl
+or-true false c e = sym e
+
 module _ (ds : List ℕ) where
-  pub look-start : Looking ds false 0
+  pub look-start : Looking ds false false 0
   unfolding some
-  look-start = record { here = omega arith; within = below-none _; gone-is = refl }
+  look-start = record { here = omega arith; out-is = refl; gone-is = refl }
 
-  or-false : (b : Bool) → b ≡ b || false
-  or-false true = refl
-  or-false false = refl
-
-  or-true : (b : Bool) → true ≡ b || true
-  or-true true = refl
-  or-true false = refl
-
-  module _ (gone : Bool) (k : ℕ) (t : Looking ds gone k) (more : k < length ds) where
-    pub look-near : (now : Bool) → now ≡ gone → getD ds k 0 ≤ maxDistance → Looking ds now (k + 1)
+  module _ (out gone : Bool) (k : ℕ) (t : Looking ds out gone k) (more : k < length ds) where
+    -- one entry more
+    next : (out′ gone′ : Bool) → out′ ≡ some k (λ i. ltb maxDistance (known (getD ds i 0))) || ltb maxDistance (known (getD ds k 0))
+        → gone′ ≡ some k (λ i. not (isMeasured (getD ds i 0))) || not (isMeasured (getD ds k 0)) → Looking ds out′ gone′ (k + 1)
     unfolding some
-    look-near now e h = record {
-      here = omega arith;
-      within = below-more _ _ (t .within) (le-ltb maxDistance (known (getD ds k 0)) (omega (arith, known-of (getD ds k 0) (near-measured (getD ds k 0) h))));
-      gone-is = rw (add-one k, near-measured (getD ds k 0) h) (e ∙ t .gone-is ∙ or-false (some k (λ i. not (isMeasured (getD ds i 0)))));
-    }
+    next out′ gone′ e f = record { here = omega arith; out-is = rw (add-one k) e; gone-is = rw (add-one k) f }
 
-    pub look-missing : (now : Bool) → now ≡ true → getD ds k 0 ≡ missing → Looking ds now (k + 1)
-    unfolding some
-    look-missing now f e = record {
-      here = omega arith;
-      within = below-more _ _ (t .within) (le-ltb maxDistance (known (getD ds k 0)) (omega (arith, known-missing (getD ds k 0) e)));
-      gone-is = rw (add-one k, eq-eqb (getD ds k 0) missing e) (f ∙ or-true (some k (λ i. not (isMeasured (getD ds i 0)))));
-    }
+    pub look-near : (out′ gone′ : Bool) → out′ ≡ out → gone′ ≡ gone → getD ds k 0 ≤ maxDistance → Looking ds out′ gone′ (k + 1)
+    look-near out′ gone′ e f h = let m = near-measured (getD ds k 0) h in next out′ gone′
+        (e ∙ t .out-is ∙ or-false (some k (λ i. ltb maxDistance (known (getD ds i 0)))) _ (le-ltb maxDistance (known (getD ds k 0)) (omega (arith, known-of (getD ds k 0) m))))
+        (f ∙ t .gone-is ∙ or-false (some k (λ i. not (isMeasured (getD ds i 0)))) _ (ap not m))
 
-    pub look-out : maxDistance < getD ds k 0 → getD ds k 0 ≢ missing → Looked ds true false
-    look-out h n = record { out-is = sym out; missing-is = λ e. absurd (true≢false (sym out ∙ e)) }
-      where
-        out : distanceOut ds ≡ true
-        out = some-yes _ _ k more (lt-ltb maxDistance (known (getD ds k 0)) (omega (arith, known-measured (getD ds k 0) n)))
+    pub look-missing : (out′ gone′ : Bool) → out′ ≡ out → gone′ ≡ true → getD ds k 0 ≡ missing → Looking ds out′ gone′ (k + 1)
+    look-missing out′ gone′ e f h = next out′ gone′
+        (e ∙ t .out-is ∙ or-false (some k (λ i. ltb maxDistance (known (getD ds i 0)))) _ (le-ltb maxDistance (known (getD ds k 0)) (omega (arith, known-missing (getD ds k 0) h))))
+        (f ∙ or-true (some k (λ i. not (isMeasured (getD ds i 0)))) _ (ap not (is-missing (getD ds k 0) h)))
 
-  pub look-end : (gone : Bool) (k : ℕ) → Looking ds gone k → length ds ≤ k → Looked ds false gone
-  look-end gone k t h = let e : k ≡ length ds = omega (arith, t .here) in
-      record { out-is = sym (some-no _ _ (λ i l. t .within i (omega arith))); missing-is = λ _. t .gone-is ∙ ap (λ (n : ℕ). some n (λ i. not (isMeasured (getD ds i 0)))) e }
+    pub look-out : (out′ gone′ : Bool) → out′ ≡ true → gone′ ≡ gone → maxDistance < getD ds k 0 → getD ds k 0 ≢ missing → Looking ds out′ gone′ (k + 1)
+    look-out out′ gone′ e f h n = next out′ gone′
+        (e ∙ or-true (some k (λ i. ltb maxDistance (known (getD ds i 0)))) _ (lt-ltb maxDistance (known (getD ds k 0)) (omega (arith, known-measured (getD ds k 0) n))))
+        (f ∙ t .gone-is ∙ or-false (some k (λ i. not (isMeasured (getD ds i 0)))) _ (ap not (is-measured (getD ds k 0) n)))
+
+  pub look-end : (out gone : Bool) (k : ℕ) → Looking ds out gone k → length ds ≤ k → Looked ds out gone
+  look-end out gone k t h = let e : k ≡ length ds = omega (arith, t .here) in record {
+    out-is = t .out-is ∙ ap (λ (n : ℕ). some n (λ i. ltb maxDistance (known (getD ds i 0)))) e;
+    missing-is = t .gone-is ∙ ap (λ (n : ℕ). some n (λ i. not (isMeasured (getD ds i 0)))) e;
+  }

@@ -11,7 +11,7 @@ use Rattle.matrix.specs.Tests.{distanceOut, matrixTests}
 -- of the distances
 pub record Looked (ds : List ℕ) (out gone : Bool) : Type 0 where
   pub out-is : out ≡ distanceOut ds
-  pub missing-is : distanceOut ds ≡ false → gone ≡ someMissing ds
+  pub missing-is : gone ≡ someMissing ds
 
 -- of the whole matrix; a refusal says nothing of missing pairs
 pub record Surveyed (N : ℕ) (ds : List ℕ) (r : Survey) : Type 0 where

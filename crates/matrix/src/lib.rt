@@ -129,7 +129,8 @@ pub fn row_below(n: usize, i: usize, j: usize, row: usize) -> usize
     row + (n - i - 2)
 }
 
-// What a look at every distance shows: whether one is above its limit, and where none is, whether one is missing.
+// What a look at every distance shows: whether one is above its limit, and whether one is missing. No turn ends it, so that it goes through
+// several distances at once.
 struct Seen {
     out: bool,
     missing: bool,
@@ -138,25 +139,21 @@ struct Seen {
 fn look(distances: &[u16]) -> Seen
     ensures { λ r. ⌜ Looked (now (distances .entry)) (r .out) (r .missing) ⌝ }
 {
+    let mut out = false;
     let mut missing = false;
     let mut k = 0;
     while k < distances.len() {
         let far = distances[k];
         if far > Matrix::MAX_DISTANCE {
-            if far != Matrix::MISSING {
-                return Seen {
-                    out: true,
-                    missing: false,
-                };
+            if far == Matrix::MISSING {
+                missing = true;
+            } else {
+                out = true;
             }
-            missing = true;
         }
         k += 1;
     }
-    Seen {
-        out: false,
-        missing,
-    }
+    Seen { out, missing }
 }
 
 // The answer to a matrix, and where it passes whether some pair is missing.
@@ -206,14 +203,7 @@ pub fn survey_matrix(n: u32, distances: &[u16]) -> Survey
 pub fn some_missing(distances: &[u16]) -> bool
     ensures { λ r. ⌜ r ≡ someMissing (now (distances .entry)) ⌝ }
 {
-    let mut k = 0;
-    while k < distances.len() {
-        if distances[k] == Matrix::MISSING {
-            return true;
-        }
-        k += 1;
-    }
-    false
+    look(distances).missing
 }
 
 // The answer alone.

@@ -9,10 +9,10 @@ use Rattle.matrix.proofs.look.Statement.{statement}
 use Rattle.matrix.proofs.look.Tie as tie
 
 abbrev Inv-loop : tie.InvT-loop
-Inv-loop distances missing₀ k₀ missing k = Looking distances missing k
+Inv-loop distances out₀ missing₀ k₀ out missing k = Looking distances out missing k
 
 abbrev μ-loop : tie.MeasureT-loop
-μ-loop distances missing₀ k₀ missing k = length distances - k
+μ-loop distances out₀ missing₀ k₀ out missing k = length distances - k
 
 loop-holds : tie.Need-loop-holds Inv-loop μ-loop
 loop-holds c = look-start _
@@ -23,9 +23,6 @@ mul-far c = search needs
 shared-slice-read-far : tie.Need-shared-slice-read-far Inv-loop μ-loop
 shared-slice-read-far c = search needs
 
-returns : tie.Need-returns Inv-loop μ-loop
-returns c = look-out _ _ _ (c .before .before .before .before .loop .inv) (omega arith) (c .before .if1 .taken) (c .if2 .taken)
-
 add-k : tie.Need-add-k Inv-loop μ-loop
 add-k c = search needs
 
@@ -34,11 +31,12 @@ loop-less c = search needs
 
 loop-again : tie.Need-loop-again Inv-loop μ-loop
 loop-again c = let t = c .before .before .before .loop .inv in
-    ⊎-elim (λ q. look-missing _ _ _ t (omega arith) _ (q .2) (q .1 .left)) (λ q. look-near _ _ _ t (omega arith) _ (q .1) (q .0 .left))
+    ⊎-elim (λ q. look-missing _ _ _ _ t (omega arith) _ _ (q .2) (q .3) (q .1 .taken))
+    (⊎-elim (λ q. look-out _ _ _ _ t (omega arith) _ _ (q .2) (q .3) (q .0 .taken) (q .1 .left)) (λ q. look-near _ _ _ _ t (omega arith) _ _ (q .1) (q .2) (q .0 .left)))
     (c .if1 .came)
 
-returns-2 : tie.Need-returns-2 Inv-loop μ-loop
-returns-2 c = look-end _ _ _ (c .before .loop .inv) (omega arith)
+returns : tie.Need-returns Inv-loop μ-loop
+returns c = look-end _ _ _ _ (c .before .loop .inv) (omega arith)
 
 pub look-spec : {M : Type 1} → statement M
 look-spec =
@@ -49,8 +47,7 @@ look-spec =
     loop-holds
     mul-far
     shared-slice-read-far
-    returns
     add-k
     loop-less
     loop-again
-    returns-2)
+    returns)

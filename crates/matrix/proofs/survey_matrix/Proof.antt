@@ -53,7 +53,7 @@ returns-5 : tie.Need-returns-5
 returns-5 c = let e = c .before .before in
     let none = sym (c .before .look .ensures .out-is) ∙ c .if4 .left in
     let z = is-0 _ (lent (e .before .before .before)) (whole (e .before .before)) (e .before .if2 .left) (e .if3 .left) none in
-    record { answer = z; some-missing = λ _. c .before .look .ensures .missing-is none; unread = λ n. absurd (n (sym z)) }
+    record { answer = z; some-missing = λ _. c .before .look .ensures .missing-is; unread = λ n. absurd (n (sym z)) }
 
 pub survey-matrix-spec : {M : Type 1} → statement M
 survey-matrix-spec =
