@@ -63,7 +63,7 @@ module _ {I : Type 0} {S : (I → ℤ) → ℤ} (T : Sums S) (K : ℕ) (parts : 
         ∙ sum-cong K (λ v _. by-ring (negℤ (pos 2 *ℤ Q) ∷ x v ∷ splitAt v ∷ pathsAt x v ∷ []) (search quote depth 20) tt))
 
     -- H, by ones
-    path-ones : (x : ℕ → ℤ) → ((v : ℕ) → v < K → x v ≡ pos 1) → (p : I) → path K parts x p ≡ hops K parts p
+    pub path-ones : (x : ℕ → ℤ) → ((v : ℕ) → v < K → x v ≡ pos 1) → (p : I) → path K parts x p ≡ hops K parts p
     unfolding path hops
     path-ones x one p = sum-cong K (λ v h. ap (λ y. ind (parts v p) *ℤ y) (one v h) ∙ *ℤ-oneʳ (ind (parts v p)))
 

@@ -1,22 +1,16 @@
--- What the code reads back from its bits: a remainder, and a total that fits 63 bits. The idea: each is small enough to come back
--- as it went in.
-use mathlib.Core.Path.{_≡_, refl, ap, _∙_}
+-- What the code reads back from its bits: a remainder, and a distance. The idea: each is small enough to come back as it went in.
+use mathlib.Core.Path.{_≡_, ap, _∙_}
 use mathlib.Core.Bool.{true}
 use mathlib.Core.List.{List}
-use Prim.Native.Nat.{ℕ, _+_, _≤_, _<_}
+use Prim.Native.Nat.{ℕ, _+_, _<_}
 use native.Mathlib.Omega.{arith}
-use lib.Dec.{T}
-use lib.IntN.{ℤ, pos, negsuc, natAbs}
+use lib.IntN.{ℤ, pos}
 use lib.ListN.{getD}
-use lib.Signed.{nonNeg}
 use mir.Syntax.{w64}
 use mir.Val.{SFits, toZ, ofZ}
 use mir.Facts.{toZ-ofZ}
-use Rattle.exact.specs.Fits.{Fits63}
-use Rattle.exact.specs.Order.{_≤ᶻ_}
 use Rattle.exact.specs.Table.{table}
 use Rattle.exact.proofs.Fill.{getD-table}
-use Rattle.exact.proofs.Order.{≤-pos}
 use Rattle.exact.proofs.Sign.{fits-abs}
 use Rattle.matrix.specs.Place.{place, measured}
 use Rattle.tree_theory.specs.Chain.{parentOf}
@@ -24,19 +18,6 @@ use Rattle.tree_theory.specs.Cluster.{cluster}
 use Rattle.pairs.specs.Ready.{Ready, remainderAt}
 use Rattle.pairs.proofs.Remaining.{far-near, remainder-fits}
 use Rattle.fit_numbers.specs.Terms.{Summable}
-
--- a number that is not negative is its magnitude
-pub whole : (z : ℤ) → pos 0 ≤ᶻ z → z ≡ pos (natAbs z)
-whole (pos n) h = refl
-whole (negsuc n) h = absurd (h .le)
-
-pub not-negative : (z : ℤ) → pos 0 ≤ᶻ z → T (nonNeg z)
-not-negative (pos n) h = tt
-not-negative (negsuc n) h = absurd (h .le)
-
-pub between : (z : ℤ) (b : ℕ) → pos 0 ≤ᶻ z → z ≤ᶻ pos b → natAbs z ≤ b
-between (pos n) b h k = ≤-pos k
-between (negsuc n) b h k = absurd (h .le)
 
 -- what the sums are lent is what the pairs ask, beside the clusters that nothing here reads
 pub ready-of : {N K D : ℕ} {ds ps : List ℕ} {ns : List ℤ} → Summable N K D ds ps ns → Ready N K D ds ps (table (K + 1) (cluster N (parentOf ps))) ns
@@ -68,7 +49,3 @@ remainder-back w i j rising strain off e = ap (λ z. toZ w64 (ofZ w64 z)) e ∙ 
 -- the distance of a measured pair, as it is cast
 pub read-fits : {N K D : ℕ} {ds ps cs : List ℕ} {ns : List ℤ} → Ready N K D ds ps cs ns → (i j : ℕ) → i < j → j < N → (k : ℕ) → k ≡ place i j → measured ds (i, j) ≡ true → SFits w64 (pos (getD ds k 0))
 read-fits {N} {K} {D} {ds} w i j rising strain k e m = rw e (fits-abs (pos (getD ds (place i j) 0)) (omega (arith, far-near w i j rising strain m)))
-
--- a number that fits 63 bits comes back as it went in
-pub fits-of : (z y : ℤ) → z ≡ y → Fits63 y → SFits w64 z
-fits-of z y e f = fits-abs z (omega (arith, ap natAbs e, between y 9223372036854775807 (f .low) (f .high)))

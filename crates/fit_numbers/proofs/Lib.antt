@@ -3,3 +3,4 @@ pub mod Written
 pub mod Back
 pub mod Squares
 pub mod Terms
+pub mod Whole

@@ -6,18 +6,15 @@ use mathlib.Core.List.{List, [], _∷_}
 use Prim.Native.Nat.{ℕ, suc, _≤_, _<_, _^_}
 use native.Mathlib.Omega.{arith}
 use lib.IntN.{ℤ, pos, natAbs, _+ℤ_, _-ℤ_, _*ℤ_}
-use lib.ListN.{length}
 use mir.Syntax.{w64}
 use mir.Val.{SFits, toZ, ofZ}
-use Rattle.exact.specs.Sum.{sweep, pairs, ind}
-use Rattle.exact.specs.LeastSquares.{sq, path, hops, sumX, sumH}
+use Rattle.exact.specs.Sum.{sweep, pairs}
+use Rattle.exact.specs.LeastSquares.{sq, hops, sumX, sumH}
 use Rattle.exact.specs.Table.{table, entryOf}
-use Rattle.exact.proofs.Fill.{length-table, getD-table}
 use Rattle.exact.proofs.Order.{nn-sq, ≤-trans}
 use Rattle.exact.proofs.Quote.{by-ring, quote}
-use Rattle.exact.proofs.Ring.{*ℤ-oneʳ}
 use Rattle.exact.proofs.Sign.{fits-abs, back}
-use Rattle.exact.proofs.Sum.{sum-cong, pairs-sums, S-cong, S-sq}
+use Rattle.exact.proofs.Sum.{pairs-sums, S-cong, S-sq}
 use Rattle.exact.proofs.Sweep.{sweep-step, sweep-nn, sweep-le, term-le}
 use Rattle.matrix.specs.Limits.{maxStrains}
 use Rattle.tree_theory.specs.Limits.{maxEdges}
@@ -25,8 +22,11 @@ use Rattle.pairs.specs.declared.Pair.{Pair}
 use Rattle.pairs.proofs.Following.{Follows}
 use Rattle.fit_theory.proofs.Demand3.{h-high}
 use Rattle.exact.specs.Fits.{Fits63}
+use Rattle.inner_paths.proofs.Reaching.{few}
+use Rattle.edge_numbers.proofs.Totals.{between}
+use Rattle.edge_numbers.proofs.ByEdges.{path-ones}
+use Rattle.edge_numbers.proofs.OneEach.{one, ones-lengthened}
 use Rattle.fit_numbers.specs.Terms.{Summable}
-use Rattle.fit_numbers.proofs.Back.{between}
 
 abbrev pub squareOf : (ℕ × ℕ → ℤ) → ℕ × ℕ → ℤ
 squareOf r p = sq (r p)
@@ -69,29 +69,22 @@ module _ (n : ℕ) (r : ℕ × ℕ → ℤ) (fits : Fits63 (pairs n (squareOf r)
           → toZ w64 (ofZ w64 (toZ w64 s +ℤ toZ w64 (ofZ w64 (off *ℤ off)))) ≡ sweep (squareOf r) (p .j) (p .i)
       squares-next p k = back (toZ w64 s +ℤ toZ w64 (ofZ w64 (off *ℤ off))) near ∙ more ∙ sweep-step (squareOf r) j i ∙ sym (k .adds (squareOf r))
 
+-- ---- H is small
+pub h-fits : (K : ℕ) → K ≤ maxEdges → (parts : ℕ → ℕ × ℕ → Bool) (N : ℕ) → N ≤ maxStrains → Fits63 (sumH (pairs N) K parts)
+h-fits K k parts N small = record { low = S-sq (pairs-sums N) (hops K parts); high = ≤-trans (h-high K k parts N small) (record { le = tt }) }
+
 -- ---- H, by a table of ones
-module _ (K : ℕ) (k : K ≤ maxEdges) (xs : List ℤ) (e : xs ≡ table maxEdges (λ _. pos 1)) where
-  one : (v : ℕ) → v < K → entryOf xs v ≡ pos 1
-  one v h = ap (λ (y : List ℤ). entryOf y v) e ∙ getD-table maxEdges (λ _. pos 1) (pos 0) v (omega arith)
+module _ (xs : List ℤ) (e : xs ≡ table maxEdges (λ _. pos 1)) {N K D : ℕ} {ds ps : List ℕ} {ns : List ℤ} (w : Summable N K D ds ps ns) where
+  module _ (parts : ℕ → ℕ × ℕ → Bool) (d : ℕ × ℕ → ℤ) where
+    pub squares-ones : sumX (pairs N) K parts d (pos 0) (entryOf xs) ≡ sumH (pairs N) K parts
+    squares-ones = S-cong (pairs-sums N) (λ p. ap (λ (y : ℤ). sq (pos 0 *ℤ d p -ℤ y)) (path-ones (pairs-sums N) K parts d (entryOf xs) (one xs e (w .lengthened .allowed)) p) ∙ by-ring (d p ∷ hops K parts p ∷ []) (search quote depth 20) tt)
 
-  module _ (parts : ℕ → ℕ × ℕ → Bool) where
-    path-one : (p : ℕ × ℕ) → path K parts (entryOf xs) p ≡ hops K parts p
-    unfolding path hops
-    path-one p = sum-cong K (λ v h. ap (λ (y : ℤ). ind (parts v p) *ℤ y) (one v h) ∙ *ℤ-oneʳ (ind (parts v p)))
+    pub ones-fit : Fits63 (sumX (pairs N) K parts d (pos 0) (entryOf xs))
+    ones-fit = subst Fits63 (sym squares-ones) (h-fits K (few (w .lengthened)) parts N (w .lengthened .allowed .few))
 
-    pub squares-ones : (d : ℕ × ℕ → ℤ) (N : ℕ) → sumX (pairs N) K parts d (pos 0) (entryOf xs) ≡ sumH (pairs N) K parts
-    squares-ones d N = S-cong (pairs-sums N) (λ p. ap (λ (y : ℤ). sq (pos 0 *ℤ d p -ℤ y)) (path-one p) ∙ by-ring (d p ∷ hops K parts p ∷ []) (search quote depth 20) tt)
-
-    pub ones-fit : (d : ℕ × ℕ → ℤ) (N : ℕ) → N ≤ maxStrains → Fits63 (sumX (pairs N) K parts d (pos 0) (entryOf xs))
-    ones-fit d N small = subst Fits63 (sym (squares-ones d N)) (record { low = S-sq (pairs-sums N) (hops K parts); high = ≤-trans (h-high K k parts N small) (record { le = tt }) })
-
-  pub ones-summable : {N D : ℕ} {ds ps : List ℕ} {ns : List ℤ} → Summable N K D ds ps ns → Summable N K 0 ds ps xs
-  ones-summable w = record {
-    lengthened = record {
-      room = w .lengthened .room;
-      allowed = w .lengthened .allowed;
-      small = record { room = omega (arith, ap length e, length-table maxEdges (λ _. pos 1)); near = λ v h. omega (arith, ap natAbs (one v h)) };
-    };
+  pub ones-summable : Summable N K 0 ds ps xs
+  ones-summable = record {
+    lengthened = ones-lengthened xs e (w .lengthened .room) (w .lengthened .allowed);
     most = omega arith;
     room = w .room;
     near = w .near;

@@ -1,5 +1,4 @@
--- F, gathered modulo 2^64. The idea: each term fits an i64, so the accumulator takes it exactly, modulo 2^64, and F, which is small,
--- is the only small number that the accumulator can stand for.
+-- F, gathered modulo 2^64. The idea: each term fits an i64, so the accumulator takes it exactly, modulo 2^64.
 use mathlib.Core.Path.{_≡_, sym, ap, ap₂, _∙_, subst}
 use mathlib.Core.Bool.{true}
 use mathlib.Core.List.{List}
@@ -11,7 +10,7 @@ use mir.Syntax.{w64}
 use mir.Val.{SFits, toZ, ofZ}
 use Rattle.exact.specs.Sum.{sweep}
 use Rattle.exact.specs.Modulo.{Modulo}
-use Rattle.exact.proofs.Modular.{modulo-chain, modulo-is}
+use Rattle.exact.proofs.Modular.{modulo-chain}
 use Rattle.exact.proofs.Sign.{fits-abs, back, back-pos}
 use Rattle.matrix.specs.Limits.{missing}
 use Rattle.matrix.specs.Place.{distance, measured, place}
@@ -24,8 +23,7 @@ use Rattle.fit_theory.proofs.Ranges.{product-range}
 use Rattle.pairs.proofs.Bounded.{in-bounds}
 use Rattle.pairs.proofs.Remaining.{far-near, has-not}
 use Rattle.fit_numbers.specs.Terms.{termOf}
-use Rattle.exact.specs.Fits.{Fits63}
-use Rattle.fit_numbers.proofs.Back.{whole, between, remainder-back}
+use Rattle.fit_numbers.proofs.Back.{remainder-back}
 
 module _ {N K D : ℕ} {ds ps cs : List ℕ} {ns : List ℤ} (w : Ready N K D ds ps cs ns) (w′ : InRange K ns) where
   -- k is where the code reads the distance, off what it gets as the remainder
@@ -55,9 +53,3 @@ module _ {N K D : ℕ} {ds ps cs : List ℕ} {ns : List ℤ} (w : Ready N K D ds
 pub gathered-next : (f : ℕ × ℕ → ℤ) (i j acc r : ℕ) (t : ℤ) (p : Pair) → Modulo acc (sweep f j i) → Modulo r (pos acc +ℤ t) → t ≡ f (i, j) → Follows i j p
     → Modulo r (sweep f (p .j) (p .i))
 gathered-next f i j acc r t p h g e k = subst (Modulo r) (ap (λ z. sweep f j i +ℤ z) e ∙ sym (k .adds f)) (modulo-chain t h g)
-
--- the accumulator of a total that fits
-pub gathered-is : (acc : ℕ) (z : ℤ) → acc < 2 ^ 64 → Fits63 z → Modulo acc z → pos acc ≡ z
-gathered-is acc z small fits h =
-    let e : z ≡ pos (natAbs z) = whole z (fits .low) in
-    ap pos (modulo-is acc (natAbs z) small (omega (arith, between z 9223372036854775807 (fits .low) (fits .high))) (subst (Modulo acc) e h)) ∙ sym e

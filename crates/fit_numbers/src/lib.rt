@@ -1,4 +1,5 @@
 // The numbers of an accepted fit: the tree length, the rounded lengths, F, R and H.
+use edge_numbers::Figures;
 use inner_paths::SPOTS;
 use matrix::Matrix;
 use tree::Tree;
@@ -148,13 +149,6 @@ fn sum_x(n: usize, edges: usize, d: u32, distances: &[u16], parents: &[u8], x: &
     sum
 }
 
-// 1 for each edge: the path over these is the number of edges on it.
-fn ones() -> [i64; Tree::MAX_EDGES]
-    ensures { λ r. ⌜ r ≡ table maxEdges (λ _. pos 1) ⌝ }
-{
-    [1; Tree::MAX_EDGES]
-}
-
 // The two sums of squares over the measured pairs. R: of 1000·d less the path over the rounded lengths. H: of the
 // number of edges that part the pair.
 pub struct SquareSums {
@@ -162,7 +156,27 @@ pub struct SquareSums {
     pub h: i64,
 }
 
-// R is X over thousandths, and H is X over ones with no distances.
+// Pair by pair: R is X over thousandths, and H is X over ones with no distances.
+fn squares_by_pairs(
+    n: usize,
+    edges: usize,
+    distances: &[u16],
+    parents: &[u8],
+    lengths: &[i64],
+) -> SquareSums
+    requires { ⌜ Summable n edges 1000 (now distances) (now parents) (now lengths) ⌝ }
+    requires { ⌜ Fits63 (sumR (pairs n) edges (partsIn (now distances) (now parents)) (distance (now distances)) (entryOf (now lengths))) ⌝ }
+    ensures { λ s. ⌜ s .r ≡ sumR (pairs n) edges (partsIn (now (distances .entry)) (now (parents .entry))) (distance (now (distances .entry))) (entryOf (now (lengths .entry))) ⌝ }
+    ensures { λ s. ⌜ s .h ≡ sumH (pairs n) edges (partsIn (now (distances .entry)) (now (parents .entry))) ⌝ }
+{
+    let one_each = edge_numbers::ones();
+    SquareSums {
+        r: sum_x(n, edges, 1000, distances, parents, lengths),
+        h: sum_x(n, edges, 0, distances, parents, &one_each),
+    }
+}
+
+// Where no pair is missing the edges give both.
 pub fn sum_squares(
     n: usize,
     edges: usize,
@@ -175,9 +189,43 @@ pub fn sum_squares(
     ensures { λ s. ⌜ s .r ≡ sumR (pairs n) edges (partsIn (now (distances .entry)) (now (parents .entry))) (distance (now (distances .entry))) (entryOf (now (lengths .entry))) ⌝ }
     ensures { λ s. ⌜ s .h ≡ sumH (pairs n) edges (partsIn (now (distances .entry)) (now (parents .entry))) ⌝ }
 {
-    let one_each = ones();
-    SquareSums {
-        r: sum_x(n, edges, 1000, distances, parents, lengths),
-        h: sum_x(n, edges, 0, distances, parents, &one_each),
+    if matrix::some_missing(distances) {
+        return squares_by_pairs(n, edges, distances, parents, lengths);
     }
+    let squares = edge_numbers::square_sums(n, edges, distances, parents, lengths);
+    SquareSums {
+        r: squares.r,
+        h: squares.h,
+    }
+}
+
+// F of the lengths, and the sums of squares of their rounding: by the edges where no pair is missing, else pair by pair.
+pub fn figures(
+    n: usize,
+    edges: usize,
+    d: u32,
+    distances: &[u16],
+    parents: &[u8],
+    numerators: &[i64],
+    lengths: &[i64],
+) -> Figures
+    requires { ⌜ Summable n edges d (now distances) (now parents) (now numerators) ⌝ }
+    requires { ⌜ InRange edges (now numerators) ⌝ }
+    requires { ⌜ Fits63 (sumF (pairs n) edges (partsIn (now distances) (now parents)) (distance (now distances)) (pos d) (entryOf (now numerators))) ⌝ }
+    requires { ⌜ Summable n edges 1000 (now distances) (now parents) (now lengths) ⌝ }
+    requires { ⌜ Fits63 (sumR (pairs n) edges (partsIn (now distances) (now parents)) (distance (now distances)) (entryOf (now lengths))) ⌝ }
+    ensures { λ s. ⌜ s .f ≡ sumF (pairs n) edges (partsIn (now (distances .entry)) (now (parents .entry))) (distance (now (distances .entry))) (pos d) (entryOf (now (numerators .entry))) ⌝ }
+    ensures { λ s. ⌜ s .r ≡ sumR (pairs n) edges (partsIn (now (distances .entry)) (now (parents .entry))) (distance (now (distances .entry))) (entryOf (now (lengths .entry))) ⌝ }
+    ensures { λ s. ⌜ s .h ≡ sumH (pairs n) edges (partsIn (now (distances .entry)) (now (parents .entry))) ⌝ }
+{
+    let missing = matrix::some_missing(distances);
+    if missing {
+        let squares = squares_by_pairs(n, edges, distances, parents, lengths);
+        return Figures {
+            f: sum_f(n, edges, d, distances, parents, numerators),
+            r: squares.r,
+            h: squares.h,
+        };
+    }
+    edge_numbers::numbers(n, edges, d, distances, parents, numerators, lengths)
 }

@@ -18,7 +18,7 @@ use Rattle.fit_theory.specs.Quantities.{partsIn, roundedOf, treeLength, fOf, rO
 use Rattle.fit_theory.specs.Stands.{Stands}
 use Rattle.fit_theory.proofs.Demand3.{r-range}
 use Rattle.fit_theory.proofs.Ranges.{bounds, rounded-range}
-use Rattle.fit_numbers.proofs.Back.{between}
+use Rattle.edge_numbers.proofs.Totals.{between}
 use Rattle.reporting.proofs.Numbers.{edges-few, total-near, f-fits, h-fits}
 use Rattle.long_reporting.proofs.Reporting.{left-small}
 use Rattle.answer_lines.specs.Texts.{byAnswer, fitOf}

@@ -17,13 +17,13 @@ use Rattle.exact.proofs.Sign.{fits-abs}
 use Rattle.exact.specs.Fits.{Fits63}
 use Rattle.exact.specs.Sum.{sum, pairs}
 use Rattle.exact.specs.Table.{table, entryOf}
-use Rattle.exact.specs.LeastSquares.{sq, hops, sumR}
+use Rattle.exact.specs.LeastSquares.{sq, sumR}
 use Rattle.exact.specs.Nearest.{nearest}
 use Rattle.exact.proofs.Fill.{length-table, table-cong}
 use Rattle.exact.proofs.LeastSquares.{path-cong}
 use Rattle.exact.proofs.Order.{≤-trans}
 use Rattle.exact.proofs.Sweep.{sum-abs}
-use Rattle.exact.proofs.Sum.{pairs-sums, S-cong, S-sq}
+use Rattle.exact.proofs.Sum.{pairs-sums, S-cong}
 use Rattle.verdict.specs.declared.Rule.{Rule}
 use Rattle.matrix.specs.Limits.{maxPairs}
 use Rattle.matrix.specs.Place.{distance, pairCount}
@@ -32,10 +32,11 @@ use Rattle.tree_theory.specs.Limits.{maxEdges}
 use Rattle.lengths.specs.Limits.{maxDenominator, maxNumerator}
 use Rattle.fit_theory.specs.Quantities.{partsIn, roundedOf, treeLength, fOf, rOf, hOf}
 use Rattle.fit_theory.specs.Stands.{Stands}
-use Rattle.fit_theory.proofs.Demand3.{least, f-range, r-range, h-high}
+use Rattle.fit_theory.proofs.Demand3.{least, f-range, r-range}
 use Rattle.fit_theory.proofs.Ranges.{bounds, rounded-range}
 use Rattle.pairs.proofs.Lent as lent
 use Rattle.fit_numbers.specs.Terms.{Summable}
+use Rattle.fit_numbers.proofs.Squares as squares
 use Rattle.fit_numbers.proofs.Written.{rounded-entry}
 use Rattle.reporting.specs.Answers.{maxTreeLength}
 
@@ -63,7 +64,7 @@ module _ (rule : Rule) (N : ℕ) (ds ps : List ℕ) (D : ℕ) (ns : List ℤ) (s
   f-fits = record { low = least rule N ds ps D ns (s .fitted) .f-low; high = ≤-trans (f-range rule N ds ps D ns s) (record { le = tt }) }
 
   pub h-fits : Fits63 (hOf N ds ps)
-  h-fits = record { low = S-sq (pairs-sums N) (hops (length ps) (partsIn ds ps)); high = ≤-trans (h-high (length ps) edges-few (partsIn ds ps) N (s .fitted .posted .matrix .few)) (record { le = tt }) }
+  h-fits = squares.h-fits (length ps) edges-few (partsIn ds ps) N (s .fitted .posted .matrix .few)
 
   -- the table of rounded lengths, zeros behind its edges
   module _ (ms : List ℤ) (e : ms ≡ table maxEdges (λ v. cond (ltb v (length ps)) (nearest D (entryOf ns v)) (pos 0))) where

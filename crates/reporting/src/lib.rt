@@ -61,8 +61,15 @@ pub fn numbered(
     let strains = n as usize;
     let edges = parents.len();
     let thousandths = fit_numbers::rounded(edges, d, numerators);
-    let f = fit_numbers::sum_f(strains, edges, d, distances, parents, numerators);
-    let squares = fit_numbers::sum_squares(strains, edges, distances, parents, &thousandths);
+    let figures = fit_numbers::figures(
+        strains,
+        edges,
+        d,
+        distances,
+        parents,
+        numerators,
+        &thousandths,
+    );
     let length = fit_numbers::total(edges, numerators);
     tables::copy_out(edges, &thousandths, rounded);
     FitReport {
@@ -71,9 +78,9 @@ pub fn numbered(
         edges,
         denominator: d,
         length,
-        f,
-        r: squares.r,
-        h: squares.h,
+        f: figures.f,
+        r: figures.r,
+        h: figures.h,
         mean: mean::mean_over(n, distances, edges, d),
     }
 }

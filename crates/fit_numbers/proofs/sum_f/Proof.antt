@@ -1,5 +1,5 @@
 -- The accumulator stands for the sum of the terms before the pair at hand, modulo 2^64; F is small, so at the end it is F.
-use mathlib.Core.Path.{_≡_, sym, _∙_, ap, subst}
+use mathlib.Core.Path.{_≡_, _∙_, ap, subst}
 use Prim.Native.Nat.{_≤_, _<_, _^_}
 use native.Mathlib.Omega.{arith}
 use borrow.Author.Needs.{needs}
@@ -7,19 +7,18 @@ use lib.IntN.{ℤ, pos}
 use mir.Syntax.{w64}
 use mir.Val.{toZ, ofZ}
 use Rattle.exact.specs.LeastSquares.{sumF}
-use Rattle.exact.specs.Order.{_≤ᶻ_}
 use Rattle.exact.specs.Sum.{pairs, sweep}
 use Rattle.exact.specs.Table.{entryOf}
 use Rattle.exact.specs.Modulo.{Modulo}
 use Rattle.exact.proofs.Modular.{modulo-zero}
 use Rattle.exact.proofs.Sign.{fits-abs, back-pos}
-use Rattle.exact.proofs.Order.{≤-pos}
 use Rattle.matrix.specs.Place.{distance}
 use Rattle.fit_theory.specs.Quantities.{partsIn}
 use Rattle.pairs.proofs.Following.{ahead, Follows, follows}
 use Rattle.pairs.proofs.Turns.{PairAt, pair-start, swept-start, pair-next, swept-end}
+use Rattle.edge_numbers.proofs.Totals.{gathered-is, gathered-high}
 use Rattle.fit_numbers.proofs.Back.{ready-of}
-use Rattle.fit_numbers.proofs.Terms.{term-whole, gathered-next, gathered-is}
+use Rattle.fit_numbers.proofs.Terms.{term-whole, gathered-next}
 use Rattle.fit_numbers.specs.Terms.{termOf}
 use Rattle.fit_numbers.proofs.sum_f.Statement.{statement}
 use Rattle.fit_numbers.proofs.sum_f.Tie as tie
@@ -74,7 +73,7 @@ gathered c = let l = c .before in
     gathered-is _ _ (l .loop .inv .1) (l .before .before .before .before .pre .1 .1) (subst (Modulo (l .loop .acc)) (swept-end _ (l .loop .inv .0) (c .loop-test .left)) (l .loop .inv .2))
 
 high : (c : tie.After-loop Inv-loop μ-loop) → c .before .loop .acc ≤ 9223372036854775807
-high c = ≤-pos (subst (λ z. z ≤ᶻ pos 9223372036854775807) (sym (gathered c)) (c .before .before .before .before .before .pre .1 .1 .high))
+high c = gathered-high _ _ (c .before .before .before .before .before .pre .1 .1) (gathered c)
 
 cast-result : tie.Need-cast-result Inv-loop μ-loop
 cast-result c = fits-abs _ (omega (arith, high c))

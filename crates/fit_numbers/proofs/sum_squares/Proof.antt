@@ -1,46 +1,50 @@
--- R as it is asked to fit, and H, which is small.
-use mathlib.Core.Path.{_∙_}
+-- Where no pair is missing the edges give the sums over the table, which are those over the measured pairs.
+use mathlib.Core.Path.{sym, _∙_}
 use borrow.Author.Needs.{needs}
+use lib.IntN.{pos}
 use mir.Syntax.{w64}
 use mir.Facts.{toZ-ofZ}
-use Rattle.matrix.specs.Place.{distance}
-use Rattle.fit_theory.specs.Quantities.{partsIn}
-use Rattle.inner_paths.proofs.Reaching.{few}
-use Rattle.fit_numbers.proofs.Back.{fits-of}
-use Rattle.fit_numbers.proofs.Squares.{squares-ones, ones-fit, ones-summable}
+use Rattle.exact.specs.Table.{entryOf}
+use Rattle.matrix.specs.Place.{Complete}
+use Rattle.edge_numbers.proofs.Complete.{table-x, table-h}
+use Rattle.edge_numbers.proofs.Totals.{fits-of}
+use Rattle.fit_numbers.proofs.Whole.{splittable, r-whole, h-all}
 use Rattle.fit_numbers.proofs.sum_squares.Statement.{statement}
 use Rattle.fit_numbers.proofs.sum_squares.Tie as tie
 
-ones-requires : tie.Need-ones-requires
-ones-requires c κs = search needs
+some-missing-requires : tie.Need-some-missing-requires
+some-missing-requires c κs = search needs
 
-sum-x-requires : tie.Need-sum-x-requires
-sum-x-requires c κs = search needs
-
-slice-aggregate-sum-x : tie.Need-slice-aggregate-sum-x
-slice-aggregate-sum-x c = search needs
-
-sum-x-requires-2 : tie.Need-sum-x-requires-2
-sum-x-requires-2 c κs = let s = c .before .before .before .before .before in
-    let a = s .args in
-    let w = s .pre .0 in
-    let e = c .before .before .ones .ensures in (
-      ones-summable _ (few (w .lengthened)) _ e w,
-      ones-fit _ (few (w .lengthened)) _ e (partsIn (a .distances .now) (a .parents .now)) (distance (a .distances .now)) _ (w .lengthened .allowed .few),
-    )
+squares-by-pairs-requires : tie.Need-squares-by-pairs-requires
+squares-by-pairs-requires c κs = search needs
 
 returns : tie.Need-returns
-returns c = let s = c .before .before .before .before .before .before in
-    let a = s .args in
-    let w = s .pre .0 in
-    let parts = partsIn (a .distances .now) (a .parents .now) in
-    let e = c .before .before .before .ones .ensures in (
-      toZ-ofZ {w = w64} {z = c .before .before .sum-x .result} (fits-of _ _ (c .before .before .sum-x .ensures) (s .pre .1)) ∙ c .before .before .sum-x .ensures,
-      toZ-ofZ {w = w64} {z = c .sum-x2 .result} (fits-of _ _ (c .sum-x2 .ensures) (ones-fit _ (few (w .lengthened)) _ e parts (distance (a .distances .now)) _ (w .lengthened .allowed .few)))
-          ∙ c .sum-x2 .ensures ∙ squares-ones _ (few (w .lengthened)) _ e parts (distance (a .distances .now)) _,
+returns c = search needs
+
+all : (c : tie.Else1) → Complete (c .before .before .before .before .args .distances .now)
+all c = sym (c .before .some-missing .ensures) ∙ c .if1 .left
+
+square-sums-requires : tie.Need-square-sums-requires
+square-sums-requires c κs = let (w, fits) = c .before .before .before .before .pre in
+    (splittable w (all c), (w .lengthened, (r-whole w (all c) fits, h-all w)))
+
+returns-2 : tie.Need-returns-2
+returns-2 c = let e = c .before .before in
+    let (w, fits) = e .before .before .before .before .pre in
+    let a = e .before .before .before .before .args in
+    let s = c .before .square-sums in (
+      toZ-ofZ {w = w64} {z = s .result .r} (fits-of _ _ (s .ensures .0) (r-whole w (all e) fits))
+          ∙ s .ensures .0 ∙ sym (table-x (a .distances .now) (a .parents .now) (all e) (a .n) (a .edges) (pos 1000) (entryOf (a .lengths .now))),
+      toZ-ofZ {w = w64} {z = s .result .h} (fits-of _ _ (s .ensures .1) (h-all w))
+          ∙ s .ensures .1 ∙ sym (table-h (a .distances .now) (a .parents .now) (all e) (a .n) (a .edges)),
     )
 
 pub sum-squares-spec : {M : Type 1} → statement M
 sum-squares-spec =
     tie.close
-    (tie.spec ones-requires sum-x-requires slice-aggregate-sum-x sum-x-requires-2 returns)
+    (tie.spec
+    some-missing-requires
+    squares-by-pairs-requires
+    returns
+    square-sums-requires
+    returns-2)

@@ -7,7 +7,7 @@ use lib.ListN.{length}
 use mir.Syntax.{w64}
 use mir.Facts.{toZ-ofZ}
 use Rattle.fit_theory.proofs.Demand3.{least}
-use Rattle.fit_numbers.proofs.Back.{fits-of}
+use Rattle.edge_numbers.proofs.Totals.{fits-of}
 use Rattle.pairs.proofs.Lent.{standing}
 use Rattle.long_numbers.specs.Wides.{Natural, Wides}
 use Rattle.long_reporting.proofs.Reporting.{long-ready, f-same, f-up, total-same, rounded-is, rounded-summable, r-same, r-fits, h-fits}
