@@ -3,17 +3,14 @@
 -- `rounded-summable`: the lengths and the rounded ones can be summed over.
 -- `r-same`, `rounded-is`: the table behind whose edges stand zeros has the sums and the entries of the definition.
 use mathlib.Core.Path.{_≡_, sym, _∙_, ap, subst}
-use mathlib.Core.Bool.{Bool, cond}
+use mathlib.Core.Bool.{cond}
 use mathlib.Core.List.{List}
-use Prim.Native.Nat.{ℕ, _*_, _≤_, _<_}
-use native.Mathlib.Nat.{mul-le-mul, mul-le-mul-right}
+use Prim.Native.Nat.{ℕ, _≤_, _<_}
+use native.Mathlib.Nat.{mul-le-mul-right}
 use native.Mathlib.Omega.{arith}
 use lib.Dec.{ltb}
 use lib.IntN.{ℤ, pos, natAbs, _-ℤ_, _*ℤ_}
 use lib.ListN.{length}
-use mir.Syntax.{w64}
-use mir.Val.{SFits}
-use Rattle.exact.proofs.Sign.{fits-abs}
 use Rattle.exact.specs.Fits.{Fits63}
 use Rattle.exact.specs.Sum.{sum, pairs}
 use Rattle.exact.specs.Table.{table, entryOf}
@@ -25,11 +22,10 @@ use Rattle.exact.proofs.Order.{≤-trans}
 use Rattle.exact.proofs.Sweep.{sum-abs}
 use Rattle.exact.proofs.Sum.{pairs-sums, S-cong}
 use Rattle.verdict.specs.declared.Rule.{Rule}
-use Rattle.matrix.specs.Limits.{maxPairs}
-use Rattle.matrix.specs.Place.{distance, pairCount}
+use Rattle.matrix.specs.Place.{distance}
 use Rattle.matrix.proofs.Completes.{known-near}
 use Rattle.tree_theory.specs.Limits.{maxEdges}
-use Rattle.lengths.specs.Limits.{maxDenominator, maxNumerator}
+use Rattle.lengths.specs.Limits.{maxNumerator}
 use Rattle.fit_theory.specs.Quantities.{partsIn, roundedOf, treeLength, fOf, rOf, hOf}
 use Rattle.fit_theory.specs.Stands.{Stands}
 use Rattle.fit_theory.proofs.Demand3.{least, f-range, r-range}

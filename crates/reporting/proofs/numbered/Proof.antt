@@ -1,16 +1,10 @@
 -- `numbered`: what stands keeps every number within its width, and each is the definition's.
-use mathlib.Core.Path.{_≡_, refl, sym, _∙_, ap, ap₂}
-use Prim.Native.Nat.{_*_, _≤_}
+use mathlib.Core.Path.{refl, _∙_, ap}
 use native.Mathlib.Omega.{arith}
-use lib.IntN.{ℤ, pos, natAbs, _*ℤ_}
+use lib.IntN.{natAbs}
 use mir.Syntax.{w64}
-use mir.Val.{toZ}
 use mir.Facts.{toZ-ofZ}
-use Rattle.exact.proofs.Sign.{fits-abs, back, back-pos}
-use Rattle.matrix.specs.Limits.{maxPairs}
-use Rattle.matrix.specs.Place.{pairCount}
-use Rattle.matrix.proofs.Places.{pairs-few}
-use Rattle.lengths.specs.Limits.{maxDenominator}
+use Rattle.exact.proofs.Sign.{fits-abs}
 use Rattle.fit_theory.proofs.Demand3.{least}
 use Rattle.pairs.proofs.Lent.{in-range}
 use Rattle.edge_numbers.proofs.Totals.{fits-of}
