@@ -29,7 +29,7 @@ mix-requires : tie.Need-mix-requires
 mix-requires c κs = let s = c .before .before .before .before .before .before .before in
     let p = s .pre in (
       (few-edges (p .0), p .1 .1 .0 .size),
-      mixable _ (pos 2000) (pos 1) _ _ (omega arith) (omega arith) (taken-low (p .0) (p .1 .1 .0)) (paths-low (p .1 .0) (c .before .before .path-sums .ensures)),
+      mixable _ _ _ _ _ (omega arith) (omega arith) (taken-low (p .0) (p .1 .1 .0)) (paths-low (p .1 .0) (c .before .before .path-sums .ensures)),
     )
 
 cast-pair-count : tie.Need-cast-pair-count

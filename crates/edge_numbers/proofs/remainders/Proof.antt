@@ -26,7 +26,7 @@ mix-requires c κs = let s = c .before .before .before .before .before .before .
     let p = s .pre in
     let t = c .before .before .before .before .before .splits .ensures in (
       (few-edges (p .0), t .size),
-      mixable _ _ (negsuc 0) _ _ (omega (arith, ap natAbs (back-pos (s .args .d) (omega (arith, p .1 .1 .0))), p .1 .1 .0)) (omega arith) (sums-low (p .0) t) (paths-low (p .1 .0) (c .before .before .path-sums .ensures)),
+      mixable _ _ _ _ _ (omega (arith, ap natAbs (back-pos (s .args .d) (omega (arith, p .1 .1 .0))), p .1 .1 .0)) (omega arith) (sums-low (p .0) t) (paths-low (p .1 .0) (c .before .before .path-sums .ensures)),
     )
 
 returns : tie.Need-returns

@@ -20,7 +20,7 @@ mix-requires : tie.Need-mix-requires
 mix-requires c κs = let p = c .before .before .before .before .before .before .before .before .pre in
     let t = c .before .before .before .splits .ensures in (
       (few-edges p, t .size),
-      mixable _ (negsuc 0) (pos 0) _ _ (omega arith) (omega arith) (sums-low p t) (zeros-low _ (c .before .before .no-sums .ensures) _),
+      mixable _ _ _ _ _ (omega arith) (omega arith) (sums-low p t) (zeros-low _ (c .before .before .no-sums .ensures) _),
     )
 
 returns : tie.Need-returns

@@ -39,7 +39,7 @@ edge-zeros-requires c κs = search needs
 remainders-requires : tie.Need-remainders-requires
 remainders-requires c κs = let e = c .before .before in
     let s = e .before .before .before .before in
-    (splittable (s .pre .0) (complete e), (lengthened (s .pre .0) (s .pre .1), (s .pre .1 .most, c .before .edge-zeros .ensures)))
+    (splittable (s .pre .0) (complete e), (lengthened (s .pre .0) (s .pre .1), (omega (arith, s .pre .1 .most), c .before .edge-zeros .ensures)))
 
 balance-requires-2 : tie.Need-balance-requires-2
 balance-requires-2 c κs = search needs
