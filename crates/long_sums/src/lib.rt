@@ -1,5 +1,5 @@
 // For each edge the sum of the remainders of the pairs that it parts, of lengths whose denominator and numerators are written in
-// digits: one pass of `edge_sums` for each digit, the highest first, each sum cut off where it is large.
+// digits: the sums of each digit, the highest first, each cut off where it is large.
 use tree::Tree;
 ghost use mathlib.Core.Path.{_≡_};
 ghost use Prim.Native.Nat.{_*_, _≤_};
@@ -10,6 +10,8 @@ ghost use Rattle.long_digits.specs.Digits.{base};
 ghost use Rattle.long_digits.specs.Clamp.{clamp, most};
 ghost use Rattle.tree_theory.specs.Limits.{maxEdges};
 ghost use Rattle.tree_theory.specs.EdgeTable.{EdgeTable};
+ghost use Rattle.pairs.specs.Ready.{Ready, InRange};
+ghost use Rattle.edge_sums.specs.Sums.{EdgeSums};
 ghost use Rattle.long_theory.specs.Long.{longNumerator};
 ghost use Rattle.long_sums.specs.Ready.{LongReady, LongSums, LongDigits, Levels};
 
@@ -54,6 +56,28 @@ fn next_level(edges: usize, tops: &[i64; Tree::MAX_EDGES], sums: &[i64]) -> [i64
     next
 }
 
+// For each edge the remainders of the pairs that it parts over one digit, then zeros: edge by edge where no pair is missing, else pair by pair.
+fn level_sums(
+    n: usize,
+    edges: usize,
+    d: u32,
+    distances: &[u16],
+    parents: &[u8],
+    masks: &[u64; Tree::MAX_VERTICES],
+    digits: &[i64],
+) -> [i64; Tree::MAX_EDGES]
+    requires { ⌜ Ready n edges d (now distances) (now parents) (now masks) (now digits) ⌝ }
+    requires { ⌜ InRange edges (now digits) ⌝ }
+    ensures { λ r. ⌜ EdgeSums n edges d (now (distances .entry)) (now (parents .entry)) (now (digits .entry)) r ⌝ }
+{
+    if matrix::some_missing(distances) {
+        return edge_sums::edge_sums(n, edges, d, distances, parents, masks, digits);
+    }
+    let mut sums = no_tops();
+    edge_numbers::remainders(n, edges, d, distances, parents, digits, &mut sums);
+    sums
+}
+
 // For each edge the remainders added over the pairs that it parts, then zeros: exactly, where that is below 10^12 on either side, and
 // else 10^12 with the sum's sign. The numerators' digits stand level by level, the highest first, each level with a digit of every edge.
 pub fn long_sums(
@@ -73,7 +97,7 @@ pub fn long_sums(
     let mut at = 0;
     let mut k = 0;
     while k < levels {
-        let sums = edge_sums::edge_sums(n, edges, d[k], distances, parents, masks, &digits[at..]);
+        let sums = level_sums(n, edges, d[k], distances, parents, masks, &digits[at..]);
         tops = next_level(edges, &tops, &sums);
         at += edges;
         k += 1;
