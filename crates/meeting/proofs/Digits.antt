@@ -26,10 +26,10 @@ pub record Lows (k m i : ℕ) : Type 0 where
   pub off : bitAnd m (m - 1) ≡ m - 2 ^ i
 
 -- the digits above the lowest
-bit-suc : (m j : ℕ) → bitAt m (suc j) ≡ bitAt (m / 2) j
+pub bit-suc : (m j : ℕ) → bitAt m (suc j) ≡ bitAt (m / 2) j
 bit-suc m j = ap (λ (x : ℕ). eqb (x % 2) 1) (ap (λ (x : ℕ). m / x) (pow-succ' 2 j) ∙ sym (div-div-eq-div-mul m 2 (2 ^ j)))
 
-bit-zero : (m : ℕ) → bitAt m 0 ≡ eqb (m % 2) 1
+pub bit-zero : (m : ℕ) → bitAt m 0 ≡ eqb (m % 2) 1
 bit-zero m = ap (λ (x : ℕ). eqb (x % 2) 1) (div-one m)
 
 eqb-suc : (j i : ℕ) → eqb (suc j) (suc i) ≡ eqb j i

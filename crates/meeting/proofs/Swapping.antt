@@ -32,7 +32,7 @@ by-ways-sym D ds ways i j =
     ap (λ (k : ℕ). cond (isMeasured (getD ds k 0)) (pos D *ℤ pos (known (getD ds k 0)) -ℤ entryOf ways i -ℤ entryOf ways j) (pos 0)) (pair-place-sym i j)
     ∙ ap (λ (z : ℤ). cond (measuredOf ds j i) z (pos 0)) (less-less (pos D *ℤ distanceOf ds j i) (entryOf ways i) (entryOf ways j))
 
-over-swap : (a b : ℕ) (f : ℕ → ℕ → ℤ) → over a (λ j. over b (λ i. f i j)) ≡ over b (λ i. over a (λ j. f i j))
+pub over-swap : (a b : ℕ) (f : ℕ → ℕ → ℤ) → over a (λ j. over b (λ i. f i j)) ≡ over b (λ i. over a (λ j. f i j))
 unfolding over
 over-swap a b f =
     sum-cong maxStrains (λ j _. sym (sum-* maxStrains (ind (bitAt a j)) (λ i. ind (bitAt b i) *ℤ f i j)))

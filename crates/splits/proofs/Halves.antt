@@ -2,7 +2,7 @@
 use mathlib.Core.Path.{_≡_, refl, sym, ap, ap₂, subst, _∙_}
 use mathlib.Core.Bool.{Bool, true, false, true≢false}
 use Prim.Native.Nat.{ℕ, zero, suc, _-_, _*_, _+_, _/_, _%_, _^_, _≤_, _<_}
-use native.Mathlib.Nat.{pow-succ', div-div-eq-div-mul, div-one, mod-one, sub-zero}
+use native.Mathlib.Nat.{pow-succ', mod-one, sub-zero}
 use native.Mathlib.Numerals.{add-one}
 use native.Mathlib.Omega.{arith}
 use lib.Bits.{bitAnd, and-mask}
@@ -20,6 +20,7 @@ use Rattle.matrix.specs.Limits.{maxStrains, maxDistance}
 use Rattle.tree_theory.specs.Cluster.{bitAt}
 use Rattle.tree_theory.proofs.Masks.{shl-one}
 use Rattle.meeting.specs.Meeting.{over}
+use Rattle.meeting.proofs.Digits.{bit-suc, bit-zero}
 use Rattle.meeting.proofs.Masked.{bit-none}
 use Rattle.splits.proofs.Adding.{over-abs}
 
@@ -27,12 +28,6 @@ pub record Halved (m j low high : ℕ) : Type 0 where
   pub before : (i : ℕ) → bitAt low i ≡ true → i < j
   pub behind : (i : ℕ) → bitAt high i ≡ true → j ≤ i
   pub bits : (i : ℕ) → ind (bitAt m i) ≡ ind (bitAt low i) +ℤ ind (bitAt high i)
-
-bit-suc : (m j : ℕ) → bitAt m (suc j) ≡ bitAt (m / 2) j
-bit-suc m j = ap (λ (x : ℕ). eqb (x % 2) 1) (ap (λ (x : ℕ). m / x) (pow-succ' 2 j) ∙ sym (div-div-eq-div-mul m 2 (2 ^ j)))
-
-bit-zero : (m : ℕ) → bitAt m 0 ≡ eqb (m % 2) 1
-bit-zero m = ap (λ (x : ℕ). eqb (x % 2) 1) (div-one m)
 
 either : (a b c : Bool) → ind a ≡ ind b +ℤ ind c → (b ≡ true → a ≡ true) × (c ≡ true → a ≡ true)
 unfolding ind

@@ -2,21 +2,20 @@
 -- which is named first, and two sums change places.
 use mathlib.Core.Path.{_≡_, sym, ap, subst, _∙_}
 use mathlib.Core.Bool.{true}
-use mathlib.Core.List.{List, [], _∷_}
+use mathlib.Core.List.{List}
 use Prim.Native.Nat.{ℕ, _*_, _≤_, _<_}
 use native.Mathlib.Omega.{arith}
-use lib.IntN.{ℤ, natAbs, _*ℤ_}
+use lib.IntN.{ℤ, natAbs}
 use lib.ListN.{length, getD}
 use mir.Syntax.{w64}
 use mir.Val.{toZ, ofZ}
-use Rattle.exact.specs.Sum.{ind}
-use Rattle.exact.proofs.Quote.{by-ring, quote}
 use Rattle.exact.proofs.Sign.{back}
-use Rattle.exact.proofs.Sum.{sum-cong, sum-*, sum-swap}
 use Rattle.matrix.specs.Limits.{maxStrains, maxDistance}
 use Rattle.matrix.proofs.Places.{pair-place-sym}
 use Rattle.tree_theory.specs.Cluster.{bitAt}
 use Rattle.meeting.specs.Meeting.{over}
+use Rattle.meeting.proofs.Masked.{over-cong}
+use Rattle.meeting.proofs.Swapping.{over-swap}
 use Rattle.splits.specs.Sums.{entryOfTwo, Apart}
 use Rattle.splits.proofs.Adding.{maxPart, over-abs}
 use Rattle.splits.proofs.Reading.{entry-sym, row-part}
@@ -26,13 +25,8 @@ abbrev pub across : List ℕ → ℕ → ℕ → ℤ
 across ds here there = over here (λ j. over there (λ i. entryOfTwo ds i j))
 
 pub across-swap : (ds : List ℕ) (a b : ℕ) → across ds a b ≡ across ds b a
-unfolding over
-across-swap ds a b =
-    sum-cong maxStrains (λ j _. sym (sum-* maxStrains (ind (bitAt a j)) (λ i. ind (bitAt b i) *ℤ entryOfTwo ds i j)))
-    ∙ sum-swap maxStrains maxStrains (λ j i. ind (bitAt a j) *ℤ (ind (bitAt b i) *ℤ entryOfTwo ds i j))
-    ∙ sum-cong maxStrains (λ i _. sum-cong maxStrains (λ j _. ap (λ y. ind (bitAt a j) *ℤ (ind (bitAt b i) *ℤ y)) (entry-sym ds i j)
-    ∙ by-ring (ind (bitAt a j) ∷ ind (bitAt b i) ∷ entryOfTwo ds j i ∷ []) (search quote depth 20) tt)
-    ∙ sum-* maxStrains (ind (bitAt b i)) (λ j. ind (bitAt a j) *ℤ entryOfTwo ds j i))
+across-swap ds a b = over-swap a b (entryOfTwo ds)
+    ∙ over-cong b (λ i. over a (λ j. entryOfTwo ds i j)) (λ i. over a (λ j. entryOfTwo ds j i)) (λ i _. over-cong a (λ j. entryOfTwo ds i j) (λ j. entryOfTwo ds j i) (λ j _. entry-sym ds i j))
 
 pub swap-apart : (ds : List ℕ) (here there : ℕ) → ((j : ℕ) → bitAt here j ≡ true → Apart ds there j) → (i : ℕ) → bitAt there i ≡ true → Apart ds here i
 swap-apart ds here there apart i h j g = let s = apart j g i h in (λ e. s .0 (sym e), subst (λ (k : ℕ). k < length ds) (pair-place-sym i j) (s .1))
