@@ -1,6 +1,7 @@
 /* Nanoseconds a correction and nanoseconds that all split sums take afresh, at N = 16, 32 and 64, on a balanced tree, a caterpillar and a
- * random one, both proved and both in this one program (bench/correcting.txt). A correction changes a random pair to a random distance,
- * one in eight to the mark of a missing pair. Behind each timing the kept sums and counts are compared with those worked afresh. */
+ * random one, both proved and both in this one program (bench/correcting.txt). A correction changes a random pair to a random distance;
+ * once all of them do, and every pair stays measured, and once one in eight sets the mark of a missing pair. Behind each timing the kept
+ * sums and counts are compared with those worked afresh. */
 #include <stdio.h>
 #include <stdlib.h>
 
@@ -36,18 +37,19 @@ static void keep(int64_t *kept, int64_t *counted) {
 }
 
 int main(void) {
-    printf("| N | tree | correction, ns | afresh, ns | correction / afresh |\n");
-    printf("|---|---|---|---|---|\n");
+    printf("| N | tree | pairs | correction, ns | afresh, ns | correction / afresh |\n");
+    printf("|---|---|---|---|---|---|\n");
     for (n = 16; n <= 64; n *= 2) {
         edges = 2 * n - 3;
-        for (int shape = 0; shape < 3; shape++) {
+        for (int kind = 0; kind < 6; kind++) {
+            int shape = kind / 2, marks = kind % 2;
             draw(parents, distances, n, shape);
             for (int k = 0; k < LISTED; k++) {
                 is[k] = chance(n);
                 do {
                     js[k] = chance(n);
                 } while (js[k] == is[k]);
-                fars[k] = chance(8) == 0 ? MISSING : (uint16_t)chance(50001);
+                fars[k] = marks && chance(8) == 0 ? MISSING : (uint16_t)chance(50001);
             }
             number = 0;
             keep(sums, counts);
@@ -60,7 +62,8 @@ int main(void) {
                 printf("what is kept is not what is worked afresh: N = %u, %s\n", n, shapes[shape]);
                 return 1;
             }
-            printf("| %u | %s | %.0f | %.0f | %.3f |\n", n, shapes[shape], ns[0], ns[1], ns[0] / ns[1]);
+            printf("| %u | %s | %s | %.0f | %.0f | %.3f |\n", n, shapes[shape], marks ? "some missing" : "all measured", ns[0], ns[1],
+                   ns[0] / ns[1]);
         }
     }
     return 0;

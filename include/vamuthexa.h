@@ -7,8 +7,8 @@
  * Nothing is kept between two calls: no function has memory of its own but the stack, so any number of threads may
  * call any of them at once, as long as no buffer that one of them writes is lent to another.
  *
- * Tables are on the stack. A print of a long sheet takes 97,600 bytes of it, a verdict on one 69,200; a print of a sheet
- * at most 46,800, of its pairs 45,000, a verdict 16,800; newick_read 42,100 and each of the others less, as measured
+ * Tables are on the stack. A print of a long sheet takes 99,600 bytes of it, a verdict on one 69,800; a print of a sheet
+ * at most 49,800, of its pairs 46,000, a verdict 11,300; newick_read 42,100 and each of the others less, as measured
  * with the largest sheets and the deepest trees; 128 KiB are enough for a thread that calls any of them, and 64 KiB for
  * one that calls nothing of long sheets (bench/RESULTS.md, What an entry takes of the stack).
  *

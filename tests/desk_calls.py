@@ -1,6 +1,6 @@
 #!/usr/bin/env python3
 """Calls on a desk as bytes (RULES, Two benches), by the plain reading of desk.py, and the program `desk_calls` held to it. The calls are those
-of random sequences of desk.py, each from an empty desk, as far as their numbers fit the bytes of a call.
+of random sequences of desk.py, each from an empty desk, as far as their numbers fit the bytes of a call; the desk's pairs have no bytes.
 
     tests/desk_calls.py                 writes crates/desk_calls/stdin and crates/desk_calls/stdout
     tests/desk_calls.py --check         says whether they are what this script writes
@@ -39,7 +39,7 @@ def fits(limit, *numbers):
 
 
 def bytes_of(name, given, room):
-    """A call's bytes; nothing where a number of it does not fit. `room` is the size of a report's buffer."""
+    """A call's bytes; nothing where a number of it does not fit, nor for `pairs`, which has no bytes. `room` is the size of a report's buffer."""
     if name == "post":
         n, distances, parents = given
         if fits(2 ** 32, n) and fits(2 ** 16, *distances) and fits(2 ** 8, *parents) and len(distances) <= MOST_PAIRS:
@@ -53,8 +53,10 @@ def bytes_of(name, given, room):
         i, j, distance = given
         if fits(2 ** 32, i, j) and fits(2 ** 16, distance):
             return head(CORRECT, i, j, distance)
-    elif fits(2 ** 32, given[0]):
-        return head(WITHDRAW, given[0]) if name == "withdraw" else head(REPORT, given[0], room)
+    elif name == "withdraw" and fits(2 ** 32, given[0]):
+        return head(WITHDRAW, given[0])
+    elif name == "report" and fits(2 ** 32, given[0]):
+        return head(REPORT, given[0], room)
     return None
 
 
