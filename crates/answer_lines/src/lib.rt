@@ -1,4 +1,6 @@
 // The text that an answer asks for: the lines of a report or of a direct fit with its tables, or the line of the refusal.
+#![tactic(auto)]
+
 ghost use Rattle.std.specs.Prelude.{◌≤◌, length};
 ghost use Rattle.writing.specs.Text.{Wrote};
 ghost use Rattle.lines.specs.Page.{page_size};

@@ -1,5 +1,7 @@
 // Whole numbers, exactly: the arithmetic that the rooms above need and that a machine word does not
 // give by itself. It knows no tree and no matrix.
+#![tactic(auto)]
+
 ghost use Rattle.std.specs.Prelude.{◌≡◌, ◌≤◌, pos, ◌+ℤ◌, unsigned_abs};
 ghost use Rattle.exact.specs.Nearest.{nearest, nearest_even};
 ghost use Rattle.exact.specs.Modulo.{Modulo};
@@ -53,7 +55,7 @@ pub fn thousandths(n: i64, d: u32) -> i64
 }
 
 // A length: a numerator over a denominator.
-#[derive(Drop)]
+#[derive(Clone, Copy)]
 pub struct Ratio {
     pub top: i64,
     pub bottom: u64,

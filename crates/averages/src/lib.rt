@@ -1,5 +1,7 @@
 // The lengths of RULES, Resolved trees on plain numbers, in lowest terms: an outer and an inner edge of a resolved
 // tree, from the sizes of the subtrees at its ends and the split sums of the edges around it.
+#![tactic(auto)]
+
 ghost use Rattle.std.specs.Prelude.{◌≡◌, ◌≤◌, nat_abs};
 ghost use Rattle.exact.specs.Fraction.{Lowest, ◌over◌};
 ghost use Rattle.direct_theory.specs.Splits.{twice, end_of, outer_top, outer_bottom, inner_top, inner_bottom, Sized, max_split, max_twice, max_end};
@@ -15,7 +17,7 @@ fn twice(x: i64, y: i64, z: i64) -> i64
     x + y - z
 }
 
-// An outer edge: typeof.b.S(iA) + typeof.a.S(iB) - S(AB) over 2ab, each sum taken twice.
+// An outer edge: b·S(iA) + a·S(iB) - S(AB) over 2ab, each sum taken twice.
 pub fn outer(a: i64, b: i64, t: i64, u: i64, v: i64) -> Ratio
     requires sized { Sized a × Sized b }
     requires t_bound { (nat_abs t ≤ max_split) × (nat_abs u ≤ max_split) × (nat_abs v ≤ max_split) }

@@ -1,5 +1,7 @@
 // What the sums of remainders of a tree's edges are asked under each rule. By the plain one every sum is zero; where no length
 // may be negative a positive edge's is zero, and a zero edge's zero or less.
+#![tactic(auto)]
+
 ghost use Rattle.std.specs.Prelude.{◌≡◌, ◌≤◌, length};
 ghost use Rattle.exact.specs.Table.{entry_of};
 ghost use Rattle.verdict.specs.Answer.{answer_of, reason_number};
@@ -11,7 +13,7 @@ use tree::Tree;
 use verdict::{Place, Reason, Refusal, Rule, Verdict};
 
 // The edges that a pass over the sums is about: all, the positive ones, or those of length zero.
-#[derive(Drop)]
+#[derive(Clone, Copy)]
 enum Pass {
     All,
     Positive,

@@ -1,5 +1,7 @@
 // The cells of a square matrix in a text, read in one pass: what is not of the form is found where it stands, and each cell is
 // judged and kept as it is passed.
+#![tactic(auto)]
+
 ghost use Rattle.std.specs.Prelude.{◌≡◌, true, cond, ◌&&◌, ◌||◌, ◌+◌, ◌-◌, ◌≤◌, eqb, ltb, length, drop, replicate};
 ghost use Rattle.matrix.specs.Limits.{max_strains};
 ghost use Rattle.digits.specs.Digits.{most, at_most, number_from};
@@ -98,7 +100,7 @@ fn scaled(number: u64, places: usize) -> u64
 }
 
 // A cell: whether it is out, and what a matrix holds of it.
-#[derive(Drop)]
+#[derive(Clone, Copy)]
 pub struct Cell {
     pub out: bool,
     pub entry: u16,
@@ -157,7 +159,7 @@ fn cell_at(text: &[u8], at: usize) -> Cell
 }
 
 // What the cells of a row came to: whether one is not of the form, and where none is so, where they end and whether one is out.
-#[derive(Drop)]
+#[derive(Clone, Copy)]
 pub struct RowRead {
     pub bad: bool,
     pub end: usize,

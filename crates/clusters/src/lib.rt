@@ -1,5 +1,7 @@
 // Clusters of an allowed tree: the strains below each vertex as a mask, bit i for strain i; whether a strain is in a cluster, and
 // whether an edge parts two strains.
+#![tactic(auto)]
+
 ghost use Rattle.std.specs.Prelude.{◌≡◌, cond, not, ◌^◌, ◌≤◌, ltb, leb, length};
 ghost use Rattle.std.specs.Int.Count.{ones};
 ghost use Rattle.exact.specs.Table.{table};

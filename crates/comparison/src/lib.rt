@@ -1,5 +1,7 @@
 // Two sheets beside each other: whose tree length is less, exactly, and whether they have one matrix. Proved from the contracts
 // of the rooms below and from the laws that they keep for customers.
+#![tactic(auto)]
+
 ghost use Rattle.std.specs.Prelude.{◌≡◌, ◌+◌, ◌*◌, ◌≤◌, pos, nat_abs, ◌*ℤ◌, length};
 ghost use Rattle.std.specs.Int.Signed.{lt_z};
 ghost use Rattle.verdict.specs.Answer.{pass};
@@ -14,7 +16,7 @@ use records::Layout;
 use verdict::{Rule, Verdict};
 
 // The answer to a sheet, and its tree length as a numerator over a denominator: zeros where it is refused.
-#[derive(Drop)]
+#[derive(Clone, Copy)]
 pub struct TreeLength {
     pub verdict: Verdict,
     pub numerator: i64,

@@ -1,5 +1,7 @@
 // One distance corrected, over lent tables: the matrix, and beside it the split sums and the counts of measured pairs, which move with it
 // at the edges that part the pair and nowhere else.
+#![tactic(auto)]
+
 ghost use Rattle.std.specs.Prelude.{◌≡◌, ◌≤◌, eqb, pos, nat_abs, ◌-ℤ◌, length};
 ghost use Rattle.exact.specs.Sum.{ind};
 ghost use Rattle.exact.specs.Table.{entry_of};

@@ -1,4 +1,6 @@
 // The tables of a sheet's records, read from its bytes: each entry once, and zeros behind the last.
+#![tactic(auto)]
+
 ghost use Rattle.std.specs.Prelude.{◌≡◌, ◌+◌, ◌*◌, ◌≤◌, ◌<◌, pos, length};
 ghost use Rattle.exact.specs.Table.{table, padded};
 ghost use Rattle.matrix.specs.Limits.{max_strains, max_pairs};

@@ -1,6 +1,8 @@
 // What a desk holds, by value (RULES, Two benches): the matrix and the tree that are posted with the split sums and the counts beside
 // them, and for each of two benches a table that stands, or none. `desk_of`, in specs/Held.antt, says which desk of the definitions a
 // value is, and `Held` that it holds just that.
+#![tactic(auto)]
+
 ghost use Rattle.std.specs.Prelude.{◌≡◌};
 ghost use Rattle.verdict.specs.Answer.{answer_of};
 ghost use Rattle.desk_theory.specs.Desk.{bench_out};
@@ -12,7 +14,7 @@ use verdict::{Place, Reason, Refusal, Verdict};
 
 // A matrix and a tree that passed together, each in the front of its table with zeros behind, and every edge's split sum and number of
 // measured pairs that it parts. Where nothing is posted, zeros.
-#[derive(Drop)]
+#[derive(Clone, Copy)]
 pub struct Posting {
     pub n: u32,
     pub pairs: usize,
@@ -24,14 +26,14 @@ pub struct Posting {
 }
 
 // A bench's table, in the front of its numerators with zeros behind; zeros where none stands.
-#[derive(Drop)]
+#[derive(Clone, Copy)]
 pub struct Bench {
     pub standing: bool,
     pub d: u32,
     pub numerators: [i64; Tree::MAX_EDGES],
 }
 
-#[derive(Drop)]
+#[derive(Clone, Copy)]
 pub struct Desk {
     pub posted: bool,
     pub posting: Posting,
@@ -40,7 +42,7 @@ pub struct Desk {
 }
 
 // The answer to a call, and the desk after it.
-#[derive(Drop)]
+#[derive(Clone, Copy)]
 pub struct Answered {
     pub verdict: Verdict,
     pub desk: Desk,

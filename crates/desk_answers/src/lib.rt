@@ -1,4 +1,6 @@
 // What a desk answers to what a line means (RULES, The desk's lines): the text, and the desk after it.
+#![tactic(auto)]
+
 ghost use Rattle.std.specs.Prelude.{◌≡◌, ◌≤◌, length};
 ghost use Rattle.verdict.specs.Answer.{answer_of};
 ghost use Rattle.writing.specs.Text.{Wrote};
@@ -14,7 +16,7 @@ use desk_lines::Line;
 use verdict::Verdict;
 
 // The desk after a line, and how many bytes of the page its answer has.
-#[derive(Drop)]
+#[derive(Clone, Copy)]
 pub struct Told {
     pub desk: Desk,
     pub length: usize,

@@ -1,5 +1,7 @@
 // What a bench does with its table (RULES, Two benches): it proposes lengths, which stand where they are the fit to what is posted, or
 // takes its table down.
+#![tactic(auto)]
+
 ghost use Rattle.std.specs.Prelude.{◌≡◌, true, ◌≤◌, length};
 ghost use Rattle.verdict.specs.Answer.{answer_of};
 ghost use Rattle.tree_theory.specs.Limits.{max_edges};

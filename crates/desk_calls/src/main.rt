@@ -6,6 +6,8 @@
 //     3  propose a bench, D, so many numerators (8 each)
 //     4  withdraw a bench
 //     5  report a bench, a buffer of so many entries, at most 125
+#![tactic(auto)]
+
 ghost use Rattle.std.specs.Prelude.{◌≡◌, ◌+◌, ◌*◌, ◌≤◌, ◌<◌, length};
 ghost use Rattle.matrix.specs.Limits.{max_pairs};
 ghost use Rattle.tree_theory.specs.Limits.{max_edges};
@@ -116,7 +118,7 @@ fn line_of(verdict: Verdict, text: &mut [u8]) -> usize
 }
 
 // The report of a bench with a buffer of so many entries, or its refusal; whether it went out.
-fn reported(desk: Desk, bench: u32, size: usize) -> bool
+fn reported(rt: &(impl Print + Eprint), desk: Desk, bench: u32, size: usize) -> bool
     requires held { Held desk }
     requires size_le_max_edges { size ≤ max_edges }
 {
@@ -134,17 +136,25 @@ fn reported(desk: Desk, bench: u32, size: usize) -> bool
         },
         &mut text,
     );
-    streams::put_out(end, &text)
+    streams::put_out(rt, end, &text)
 }
 
 // The desk after a turn, and whether its answer went out.
-#[derive(Drop)]
+#[derive(Clone, Copy)]
 struct Turn {
     desk: Desk,
     written: bool,
 }
 
-fn turned(desk: Desk, kind: u32, a: u32, b: u32, c: u32, rest: &[u8]) -> Turn
+fn turned(
+    rt: &(impl Print + Eprint),
+    desk: Desk,
+    kind: u32,
+    a: u32,
+    b: u32,
+    c: u32,
+    rest: &[u8],
+) -> Turn
     requires { Held desk }
     ensures { Held result.desk }
 {
@@ -155,7 +165,7 @@ fn turned(desk: Desk, kind: u32, a: u32, b: u32, c: u32, rest: &[u8]) -> Turn
         };
     }
     if kind == 5 {
-        let written = reported(desk, a, least(b as usize, Tree::MAX_EDGES));
+        let written = reported(rt, desk, a, least(b as usize, Tree::MAX_EDGES));
         return Turn { desk, written };
     }
     let after = called(desk, kind, a, b, c, rest);
@@ -163,7 +173,7 @@ fn turned(desk: Desk, kind: u32, a: u32, b: u32, c: u32, rest: &[u8]) -> Turn
     let next = after.desk;
     let mut text = pages::page();
     let end = line_of(answer, &mut text);
-    let written = streams::put_out(end, &text);
+    let written = streams::put_out(rt, end, &text);
     Turn {
         desk: next,
         written,
@@ -171,7 +181,7 @@ fn turned(desk: Desk, kind: u32, a: u32, b: u32, c: u32, rest: &[u8]) -> Turn
 }
 
 // Every whole call in turn, up to the first whose answer cannot be written.
-fn run(s: &[u8]) {
+fn run(rt: &(impl Print + Eprint), s: &[u8]) {
     let mut desk = desk::empty();
     let mut at = 0;
     while at + 16 <= s.len() {
@@ -181,7 +191,7 @@ fn run(s: &[u8]) {
         let c = endian::u32_at(s, at + 12);
         let start = at + 16;
         let end = start + least(behind(kind, b, c), s.len() - start);
-        let turn = turned(desk, kind, a, b, c, &s[start..end]);
+        let turn = turned(rt, desk, kind, a, b, c, &s[start..end]);
         if !turn.written {
             return;
         }
@@ -191,10 +201,10 @@ fn run(s: &[u8]) {
     }
 }
 
-fn main() {
+fn main(rt: HostRuntime) {
     let mut space = room();
-    let taken = streams::take_in(&mut space);
+    let taken = streams::take_in(&rt, &mut space);
     if taken.whole {
-        run(&space[..taken.count]);
+        run(&rt, &space[..taken.count]);
     }
 }

@@ -1,5 +1,7 @@
 // Lines cut from a buffer that is fed piece by piece (RULES, The desk's lines): where the next line ends, and what is left moved to the
 // front.
+#![tactic(auto)]
+
 ghost use Rattle.std.specs.Prelude.{◌≡◌, ◌+◌, ◌-◌, ◌≤◌, ◌<◌, length, take, drop};
 ghost use Rattle.digits.specs.Digits.{run};
 ghost use Rattle.desk_feed.specs.Feed.{in_line, end_of, LineFound, Moved};
@@ -34,7 +36,7 @@ fn without_cr(text: &[u8], from: usize, at: usize) -> usize
 }
 
 // A line: whether its end has come, where its bytes end, and where the next line begins.
-#[derive(Drop)]
+#[derive(Clone, Copy)]
 pub struct Found {
     pub whole: bool,
     pub end: usize,

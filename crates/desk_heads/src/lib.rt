@@ -1,4 +1,6 @@
 // What a line is by its length, its first byte and its first word.
+#![tactic(auto)]
+
 ghost use Rattle.desk_heads.specs.Heads.{KindOf, HeadRead};
 
 use desk_text::View;
@@ -9,7 +11,7 @@ pub const MAX_LINE: usize = 16384;
 pub const MAX_WORDS: usize = 8192;
 
 // What a line is by its first word.
-#[derive(Drop)]
+#[derive(Clone, Copy)]
 pub enum Kind {
     Silent,
     Wrong,
@@ -45,7 +47,7 @@ fn kind_of(word: &[u8]) -> Kind
 }
 
 // The kind of a line, and where its first word ends.
-#[derive(Drop)]
+#[derive(Clone, Copy)]
 pub struct Head {
     pub kind: Kind,
     pub end: usize,

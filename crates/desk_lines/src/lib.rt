@@ -1,4 +1,6 @@
 // What stands behind a line's first word, read from its bytes: a call whose tables stand at the front of lent ones, or nothing that has a form.
+#![tactic(auto)]
+
 ghost use Rattle.std.specs.Prelude.{◌≡◌, List, ℕ, ◌≤◌, ℤ, length};
 ghost use Rattle.desk_theory.specs.Desk.{withdraw};
 ghost use Rattle.desk_text.specs.Meaning.{call, shows, max_line, max_words, post_in, propose_in, correct_in, bench_in};
@@ -9,7 +11,7 @@ use desk_posts::Post;
 use desk_text::View;
 
 // A correction.
-#[derive(Drop)]
+#[derive(Clone, Copy)]
 pub struct Correct {
     pub i: u32,
     pub j: u32,
@@ -17,7 +19,7 @@ pub struct Correct {
 }
 
 // A proposal: a bench, D, and how many numerators stand at the front of their table.
-#[derive(Drop)]
+#[derive(Clone, Copy)]
 pub struct Propose {
     pub bench: u32,
     pub d: u32,
@@ -25,13 +27,13 @@ pub struct Propose {
 }
 
 // What is to be shown, and of which bench's table.
-#[derive(Drop)]
+#[derive(Clone, Copy)]
 pub struct Show {
     pub view: View,
     pub bench: u32,
 }
 
-#[derive(Drop)]
+#[derive(Clone, Copy)]
 pub enum Line {
     Silent,
     Wrong,
@@ -112,7 +114,7 @@ pub fn correct_line(line: &[u8], at: usize) -> Line
 }
 
 // A bench alone: whether that is all that is left of the line, and the bench.
-#[derive(Drop)]
+#[derive(Clone, Copy)]
 struct Bench {
     found: bool,
     bench: u32,

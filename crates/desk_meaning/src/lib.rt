@@ -1,4 +1,6 @@
 // What a line means, read from its bytes: nothing, a call whose tables stand at the front of lent ones, or nothing that has a form.
+#![tactic(auto)]
+
 ghost use Rattle.std.specs.Prelude.{◌≤◌, length};
 ghost use Rattle.desk_text.specs.Meaning.{max_words, meaning_of};
 ghost use Rattle.desk_lines.specs.Lines.{LineIs};

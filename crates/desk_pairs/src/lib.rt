@@ -1,5 +1,7 @@
 // The pairs of a bench's table (RULES, The desk's lines): of the table that stands in its name, on the matrix and the tree that are posted
 // now. They are worked out when they are asked for; nothing of them is kept.
+#![tactic(auto)]
+
 ghost use Rattle.std.specs.Prelude.{◌≡◌, true, ◌≤◌, length};
 ghost use Rattle.writing.specs.Text.{Wrote};
 ghost use Rattle.pair_lines.specs.Lines.{pairs_page};

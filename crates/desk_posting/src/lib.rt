@@ -1,5 +1,7 @@
 // What the house does (RULES, Two benches): it posts a matrix and a tree, or corrects one distance of what is posted. Either takes both
 // tables down where it passes: they were fitted to what was posted before.
+#![tactic(auto)]
+
 ghost use Rattle.std.specs.Prelude.{◌≡◌, true};
 ghost use Rattle.verdict.specs.Answer.{answer_of};
 ghost use Rattle.fit_theory.specs.Stands.{Posted};
@@ -45,7 +47,7 @@ pub fn post(desk: Desk, n: u32, distances: &[u16], parents: &[u8]) -> Answered
 }
 
 // What a correction of a posting gets: its answer, and the posting after it.
-#[derive(Drop)]
+#[derive(Clone, Copy)]
 struct Corrected {
     verdict: Verdict,
     posting: Posting,

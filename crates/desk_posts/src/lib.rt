@@ -1,4 +1,6 @@
 // The line of a posting: N and the distances, which go into the matrix's order, then the parents.
+#![tactic(auto)]
+
 ghost use Rattle.std.specs.Prelude.{◌≡◌, ◌≤◌, length};
 ghost use Rattle.desk_text.specs.Meaning.{max_line, max_words, no_more, post_in};
 ghost use Rattle.desk_text.specs.Fields.{cut_word};
@@ -30,7 +32,7 @@ pub fn over(line: &[u8], at: usize) -> bool
 }
 
 // What "N distances" came to: whether N is there, N, how many distances, and where they end.
-#[derive(Drop)]
+#[derive(Clone, Copy)]
 struct Front {
     found: bool,
     n: u32,
@@ -64,7 +66,7 @@ fn distances_of(line: &[u8], at: usize, numbers: &mut [u16], distances: &mut [u1
 }
 
 // What "/ parents" came to: whether that is all that is left of the line, and how many parents.
-#[derive(Drop)]
+#[derive(Clone, Copy)]
 struct Back {
     found: bool,
     edges: usize,
@@ -99,7 +101,7 @@ fn parents_of(line: &[u8], at: usize, numbers: &mut [u16], parents: &mut [u8]) -
 }
 
 // A posting that a line has: whether it is of the form, N, and how many distances and parents stand at the front of their tables.
-#[derive(Drop)]
+#[derive(Clone, Copy)]
 pub struct Post {
     pub found: bool,
     pub n: u32,

@@ -1,5 +1,7 @@
 // The report of a bench's table (RULES, Two benches): the one that RULES has for it on the matrix and the tree that are posted now. It is
 // worked out when it is asked for; nothing of it is kept.
+#![tactic(auto)]
+
 ghost use Rattle.std.specs.Prelude.{◌≡◌, true, length};
 ghost use Rattle.reporting.specs.Answers.{Reported};
 ghost use Rattle.desk.specs.Held.{matrix_of, tree_of, numerators_of, PostingHeld, BenchHeld, Held};

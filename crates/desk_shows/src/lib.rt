@@ -1,4 +1,6 @@
 // What a bench is shown of its table (RULES, The desk's lines): its report, its pairs, or the refusal of both.
+#![tactic(auto)]
+
 ghost use Rattle.std.specs.Prelude.{◌≤◌, length};
 ghost use Rattle.writing.specs.Text.{Wrote};
 ghost use Rattle.lines.specs.Page.{page_size};

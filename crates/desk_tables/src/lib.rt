@@ -1,4 +1,6 @@
 // The tables of a posting, from the numbers that a line has: the distances put from rows into the matrix's order, the parents as bytes.
+#![tactic(auto)]
+
 ghost use Rattle.std.specs.Prelude.{◌≡◌, true, cond, ◌&&◌, ℕ, ◌+◌, ◌≤◌, ◌<◌, eqb, leb, length, get_or};
 ghost use Rattle.matrix.specs.Limits.{max_strains};
 ghost use Rattle.matrix.specs.Place.{pair_count, behind, row_place};
@@ -8,7 +10,7 @@ ghost use Rattle.desk_tables.specs.Laid.{Front};
 use matrix::Matrix;
 
 // A pair of strains.
-#[derive(Drop)]
+#[derive(Clone, Copy)]
 struct Pair {
     i: usize,
     j: usize,

@@ -1,4 +1,6 @@
 // What a desk answers to a line (RULES, The desk's lines): the text at the front of a page, and the desk after it.
+#![tactic(auto)]
+
 ghost use Rattle.std.specs.Prelude.{◌≤◌, length};
 ghost use Rattle.pair_lines.specs.Lines.{pairs_page};
 ghost use Rattle.desk_text.specs.Meaning.{max_words, meaning_of};

@@ -1,4 +1,6 @@
 // The words of a line, read from a place on: one word, one number, and runs of numbers into lent tables.
+#![tactic(auto)]
+
 ghost use Rattle.std.specs.Prelude.{◌≡◌, ◌+◌, ◌≤◌, ◌<◌, ℤ, pos, length, drop};
 ghost use Rattle.digits.specs.Digits.{run};
 ghost use Rattle.desk_text.specs.Words.{is_letter, word_over, words, is_number, value_of, is_signed, signed_of};
@@ -33,7 +35,7 @@ fn letters_end(line: &[u8], at: usize) -> usize
 }
 
 // Where a word begins and ends.
-#[derive(Drop)]
+#[derive(Clone, Copy)]
 pub struct Word {
     pub start: usize,
     pub end: usize,
@@ -52,7 +54,7 @@ pub fn word_at(line: &[u8], at: usize) -> Word
 }
 
 // Whether a word is a number, what it is, cut, and where it ends; where it is none, 0 and where it begins.
-#[derive(Drop)]
+#[derive(Clone, Copy)]
 pub struct Number {
     pub found: bool,
     pub value: u64,
@@ -121,7 +123,7 @@ fn numerator(minus: bool, magnitude: u64) -> i64
 }
 
 // Whether a word is a number that may have a minus, what it is as a numerator, and where it ends; where it is none, 0 and where it begins.
-#[derive(Drop)]
+#[derive(Clone, Copy)]
 pub struct Signed {
     pub found: bool,
     pub value: i64,
@@ -159,7 +161,7 @@ pub fn signed_at(line: &[u8], at: usize) -> Signed
 }
 
 // What was taken: how many words, and where they end.
-#[derive(Drop)]
+#[derive(Clone, Copy)]
 pub struct Taken {
     pub count: usize,
     pub end: usize,

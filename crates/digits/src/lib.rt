@@ -1,5 +1,7 @@
 // Texts compared, blanks, and numbers read from the bytes of a text. A number above every field's limit is read as one such number, so that digits without
 // end do no harm: no count and no distance is ever taken modulo anything.
+#![tactic(auto)]
+
 ghost use Rattle.std.specs.Prelude.{◌≡◌, ◌+◌, ◌*◌, ◌≤◌, length, get_or, drop};
 ghost use Rattle.std.proofs.Math.Seq.{slice};
 ghost use Rattle.digits.specs.Digits.{run, same, is_blank, is_digit, digit_of, most, at_most, number_from};

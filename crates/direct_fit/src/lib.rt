@@ -1,5 +1,7 @@
 // Resolved trees fitted with no proposal: where every inner vertex has degree three, each length comes
 // from averages of distances between subtrees, as a fraction in lowest terms with a denominator of its own.
+#![tactic(auto)]
+
 ghost use Rattle.std.specs.Prelude.{◌≡◌, length};
 ghost use Rattle.verdict.specs.Answer.{answer_of, pass, test};
 ghost use Rattle.tree_theory.specs.Chain.{parent_of};
@@ -11,7 +13,7 @@ ghost use Rattle.direct_fit.specs.Answers.{Resolves, DirectAnswer, LengthsAnswer
 use verdict::{Place, Reason, Refusal, Verdict};
 
 // R and H of a resolved tree's fit; of a refusal the verdict, and zeros.
-#[derive(Drop)]
+#[derive(Clone, Copy)]
 pub struct DirectFit {
     pub verdict: Verdict,
     pub r: i64,
@@ -159,9 +161,8 @@ pub fn fit_resolved(
     resolve(n, distances, parents, numerators, denominators, rounded)
 }
 
-// The same for a program in C: the number, 0 where the tree is fitted.
-#[unsafe(no_mangle)]
-pub extern "C" fn resolved_lengths(
+// The same as a number, 0 where the tree is fitted. The crate direct_fit_c exports it to C.
+pub fn resolved_lengths(
     n: u32,
     distances: &[u16],
     parents: &[u8],

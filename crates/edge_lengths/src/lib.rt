@@ -1,4 +1,6 @@
 // The length of each edge of a resolved tree in lowest terms: the formulas of `averages` at the edge's own sizes and split sums.
+#![tactic(auto)]
+
 ghost use Rattle.std.specs.Prelude.{◌≡◌, ◌≤◌, ◌<◌, length};
 ghost use Rattle.exact.specs.Table.{entry_of};
 ghost use Rattle.exact.specs.Fraction.{Lowest};

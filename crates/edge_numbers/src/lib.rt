@@ -1,6 +1,8 @@
 // The numbers of a fit edge by edge, where no pair is missing: for each edge its sum of remainders, and of all pairs F and the sums of
 // squares. Each is had from what a table has for the pairs that an edge parts (splits) and from their paths (path_sums), so that no
 // pair is looked at by itself.
+#![tactic(auto)]
+
 ghost use Rattle.std.specs.Prelude.{◌≡◌, ℕ, ◌*◌, ◌%◌, ◌^◌, ◌<◌, ◌≤◌, length, pos, ◌+ℤ◌, ◌*ℤ◌, slice_index, unsigned_abs};
 ghost use Rattle.exact.specs.Sum.{sum, pairs};
 ghost use Rattle.exact.specs.Table.{table, entry_of};
@@ -210,14 +212,14 @@ fn taken_off(n: usize, edges: usize, distances: &[u16], parents: &[u8]) -> [i64;
 }
 
 // The two sums of squares: R of the rounded lengths, and H.
-#[derive(Drop)]
+#[derive(Clone, Copy)]
 pub struct Squared {
     pub r: i64,
     pub h: i64,
 }
 
 // F of the lengths and the sums of squares of their rounding.
-#[derive(Drop)]
+#[derive(Clone, Copy)]
 pub struct Figures {
     pub f: i64,
     pub r: i64,

@@ -1,5 +1,7 @@
 // For each edge the sum of the remainders of the pairs that it parts: what the verdict asks for. It is made by the steps of Bryant
 // and Waddell (1998, algorithm FASTMTM); the equation numbers at the steps are theirs.
+#![tactic(auto)]
+
 ghost use Rattle.std.specs.Prelude.{◌≡◌, ℕ, ◌<◌, ◌^◌, pos, length};
 ghost use Rattle.exact.specs.Sum.{pairs};
 ghost use Rattle.exact.specs.Table.{table};

@@ -1,8 +1,10 @@
 // Has each program's answer to an input that is empty: RULES, The print, "An empty sheet prints".
+#![tactic(auto)]
+
 use programs::Print;
 
-fn main() {
-    programs::show(Print::Report);
-    programs::show(Print::Report0);
-    programs::show(Print::Resolved);
+fn main(rt: HostRuntime) {
+    programs::show(&rt, Print::Report);
+    programs::show(&rt, Print::Report0);
+    programs::show(&rt, Print::Resolved);
 }

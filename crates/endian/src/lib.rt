@@ -1,4 +1,6 @@
 // Numbers in a slice of bytes, the lowest byte first.
+#![tactic(auto)]
+
 ghost use Rattle.std.specs.Prelude.{◌≡◌, ◌+◌, ◌<◌, ◌≤◌, length};
 ghost use Rattle.endian.specs.Bytes.{number, twos_of, twos};
 

@@ -2,6 +2,8 @@
 // 0 for a sheet of three records, 2 for one where no length may be negative, and any other for one without lengths.
 // Prints one line for each: its report, or the direct fit of its tree, with the line ends made spaces, or `refused`,
 // the number and the place.
+#![tactic(auto)]
+
 ghost use Rattle.std.specs.Prelude.{◌≡◌, ◌+◌, ◌≤◌, ◌<◌, length};
 
 // The most bytes that are read, of all the sheets together.
@@ -50,11 +52,11 @@ fn text_of(kind: u8, sheet: &[u8], text: &mut [u8]) -> usize
 }
 
 // Writes the print of a sheet out, in one line; whether it went out.
-fn print_line(kind: u8, sheet: &[u8]) -> bool {
+fn print_line(rt: &(impl Print + Eprint), kind: u8, sheet: &[u8]) -> bool {
     let mut text = pages::page();
     let written = text_of(kind, sheet, &mut text);
     in_one_line(&mut text, written);
-    streams::put_out(written, &text)
+    streams::put_out(rt, written, &text)
 }
 
 // A byte as a wider number.
@@ -78,23 +80,23 @@ fn length_at(s: &[u8], at: usize) -> usize
 }
 
 // A line for each sheet, up to the first that cannot be written.
-fn print_all(s: &[u8]) {
+fn print_all(rt: &(impl Print + Eprint), s: &[u8]) {
     let mut at = 0;
     while at + 4 <= s.len() {
         let size = length_at(s, at);
         let start = at + 4;
         let end = start + size;
-        if !print_line(s[at + 3], &s[start..end]) {
+        if !print_line(rt, s[at + 3], &s[start..end]) {
             return;
         }
         at = end;
     }
 }
 
-fn main() {
+fn main(rt: HostRuntime) {
     let mut space = room();
-    let taken = streams::take_in(&mut space);
+    let taken = streams::take_in(&rt, &mut space);
     if taken.whole {
-        print_all(&space[..taken.count]);
+        print_all(&rt, &space[..taken.count]);
     }
 }

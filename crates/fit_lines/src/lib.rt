@@ -1,5 +1,7 @@
 // The print of a report, line by line, into a lent buffer: the bytes of RULES, The print and no other. And
 // the print of a resolved tree fitted with no proposal.
+#![tactic(auto)]
+
 ghost use Rattle.std.specs.Prelude.{◌≡◌, [], ◌∷◌, ◌+◌, ◌*◌, ◌≤◌, pos, length, get_or};
 ghost use Rattle.exact.specs.Table.{entry_of};
 ghost use Rattle.tree_theory.specs.Limits.{max_edges};

@@ -1,4 +1,6 @@
 // The numbers of an accepted fit: the tree length, the rounded lengths, F, R and H.
+#![tactic(auto)]
+
 ghost use Rattle.std.specs.Prelude.{◌≡◌, cond, ◌+◌, ◌-◌, ◌≤◌, ◌<◌, ltb, pos};
 ghost use Rattle.exact.specs.Sum.{sum, pairs};
 ghost use Rattle.exact.specs.Table.{table, entry_of};
@@ -148,7 +150,7 @@ fn sum_x(n: usize, edges: usize, d: u32, distances: &[u16], parents: &[u8], x: &
 
 // The two sums of squares over the measured pairs. R: of 1000·d less the path over the rounded lengths. H: of the
 // number of edges that part the pair.
-#[derive(Drop)]
+#[derive(Clone, Copy)]
 pub struct SquareSums {
     pub r: i64,
     pub h: i64,

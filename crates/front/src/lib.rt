@@ -1,5 +1,7 @@
 // The matrix and the tree of a sheet, which are the first two records of every form, read once and tested. What stands behind them is
 // not asked here.
+#![tactic(auto)]
+
 ghost use Rattle.std.specs.Prelude.{◌≡◌, not, eqb};
 ghost use Rattle.exact.specs.Table.{table};
 ghost use Rattle.verdict.specs.Answer.{pass, answer_of, test, ◌or_else◌};
@@ -14,7 +16,7 @@ use records::Layout;
 use verdict::{Place, Reason, Refusal, Verdict};
 
 // What the two records hold beside the distances: N and how many pairs; where the parents of the tree start and end among the bytes.
-#[derive(Drop)]
+#[derive(Clone, Copy)]
 pub struct Front {
     pub verdict: Verdict,
     pub strains: u32,

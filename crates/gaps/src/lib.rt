@@ -1,4 +1,6 @@
 // Pairs that were not measured: with whom each strain is measured, as masks, and the first edge that parts no measured pair.
+#![tactic(auto)]
+
 ghost use Rattle.std.specs.Prelude.{◌≡◌, cond, suc, ◌^◌, ◌≤◌, ◌<◌, ltb, length, get_or};
 ghost use Rattle.exact.specs.Table.{table};
 ghost use Rattle.verdict.specs.Table.{some, first};

@@ -1,5 +1,7 @@
 // The paths between the inner vertices of an allowed tree, each from one that is an edge shorter, and by them the path of any two strains: an
 // edge from each to its parent, and what lies between the parents. So all paths together are quadratic in the strains.
+#![tactic(auto)]
+
 ghost use Rattle.std.specs.Prelude.{◌≡◌, ◌+◌, ◌-◌, ◌≤◌, ◌<◌, pos, length};
 ghost use Rattle.exact.specs.LeastSquares.{path};
 ghost use Rattle.exact.specs.Table.{table, entry_of};

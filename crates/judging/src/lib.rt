@@ -1,6 +1,8 @@
 // The verdict on proposed lengths, over lent slices: accepted exactly where counts and ranges pass, the tree is allowed
 // and for every edge the remainders over the pairs that it parts add to zero; under the rule for drawn trees, no length is
 // negative, a positive edge's remainders add to zero and a zero edge's to zero or less.
+#![tactic(auto)]
+
 ghost use Rattle.std.specs.Prelude.{◌≡◌, length};
 ghost use Rattle.verdict.specs.Answer.{answer_of};
 ghost use Rattle.lengths.specs.Proper.{Proper};

@@ -1,4 +1,6 @@
 // What is kept beside a matrix and a tree that pass, worked afresh: every edge's split sum, and how many measured pairs it parts.
+#![tactic(auto)]
+
 ghost use Rattle.std.specs.Prelude.{◌≡◌, ◌≤◌, length, take};
 ghost use Rattle.exact.specs.Table.{table};
 ghost use Rattle.matrix.specs.Limits.{max_pairs};
@@ -9,7 +11,7 @@ use matrix::Matrix;
 use tree::Tree;
 
 // An entry for each edge, then zeros.
-#[derive(Drop)]
+#[derive(Clone, Copy)]
 pub struct Kept {
     pub sums: [i64; Tree::MAX_EDGES],
     pub counts: [i64; Tree::MAX_EDGES],

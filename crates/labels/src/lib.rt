@@ -1,4 +1,6 @@
 // What strains are called where they have no names: their numbers, one behind the other with a length byte before each, as names stand.
+#![tactic(auto)]
+
 ghost use Rattle.std.specs.Prelude.{◌≡◌};
 ghost use Rattle.labels.specs.Labels.{number_names};
 

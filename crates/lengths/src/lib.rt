@@ -1,4 +1,6 @@
 // Proposed lengths: a denominator and a numerator for each edge, their limits and their tests.
+#![tactic(auto)]
+
 ghost use Rattle.std.specs.Prelude.{◌≡◌, ◌≤◌, pos, length, get_or};
 ghost use Rattle.exact.specs.Table.{table};
 ghost use Rattle.verdict.specs.Answer.{answer_of};
@@ -12,7 +14,7 @@ use tree::Tree;
 use verdict::{Place, Reason, Refusal, Rule, Verdict};
 
 // The length of edge v is numerators[v] / denominator; behind the edges stand zeros.
-#[derive(Drop)]
+#[derive(Clone, Copy)]
 pub struct Lengths {
     pub denominator: u32,
     pub edges: usize,
@@ -20,7 +22,7 @@ pub struct Lengths {
 }
 
 // What a proposal gets: the answer, and the lengths where it is accepted.
-#[derive(Drop)]
+#[derive(Clone, Copy)]
 pub struct Proposed {
     pub verdict: Verdict,
     pub lengths: Lengths,
@@ -57,7 +59,7 @@ impl Lengths {
 }
 
 // The limits as the code has them; the contract says that the definitions have the same.
-#[derive(Drop)]
+#[derive(Clone, Copy)]
 pub struct Limits {
     pub denominator: u32,
     pub numerator: u64,
@@ -73,7 +75,7 @@ pub fn stated_limits() -> Limits
 }
 
 // What a pass over the numerators asks: that each is in its range, or that none is negative.
-#[derive(Drop)]
+#[derive(Clone, Copy)]
 enum Ask {
     InRange,
     NotNegative,

@@ -1,4 +1,6 @@
 // Lines of a word and numbers, written into a lent buffer.
+#![tactic(auto)]
+
 ghost use Rattle.std.specs.Prelude.{[], ◌∷◌, ◌++◌, ◌+◌, ◌*◌, ◌≤◌, pos, length};
 ghost use Rattle.writing.specs.Text.{Wrote};
 ghost use Rattle.lines.specs.Lines.{fields, line, mean_line, place_fields, refused_line};

@@ -1,4 +1,6 @@
 // A number whose levels are of any size and sign, written again in digits: carries from the lowest level up.
+#![tactic(auto)]
+
 ghost use Rattle.std.specs.Prelude.{◌≡◌, ℕ, ◌≤◌, ◌<◌, pos, nat_abs, ◌+ℤ◌, ◌*ℤ◌, length};
 ghost use Rattle.exact.specs.Order.{◌≤ᶻ◌};
 ghost use Rattle.exact.specs.Table.{table, entry_of};
@@ -10,7 +12,7 @@ ghost use Rattle.long_carrying.specs.Carried.{wide_size, Parted, Carried};
 pub const WIDE: usize = long_lengths::MAX_LEVELS + 3;
 
 // A level that is parted: what it hands on, and what it keeps.
-#[derive(Drop)]
+#[derive(Clone, Copy)]
 struct Part {
     over: i64,
     kept: u32,

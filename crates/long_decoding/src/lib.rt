@@ -1,4 +1,6 @@
 // The digits of a long sheet's lengths, read from its bytes: those of D into a table of their own, those of the numerators into a lent one.
+#![tactic(auto)]
+
 ghost use Rattle.std.specs.Prelude.{◌≡◌, ◌++◌, ◌+◌, ◌*◌, ◌≤◌, pos, length, drop};
 ghost use Rattle.exact.specs.Table.{table, padded};
 ghost use Rattle.long_theory.specs.Long.{max_levels};

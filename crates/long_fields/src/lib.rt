@@ -1,4 +1,6 @@
 // The fields of a long print: numbers in digits and numbers of 64 bits, each behind a space, and the line of an edge.
+#![tactic(auto)]
+
 ghost use Rattle.std.specs.Prelude.{[], ◌∷◌, ℕ, ◌+◌, ◌≤◌, ◌<◌, pos, nat_abs, length, get_or};
 ghost use Rattle.exact.specs.Table.{entry_of};
 ghost use Rattle.writing.specs.Text.{Wrote};

@@ -1,4 +1,6 @@
 // The print of a long sheet's fit, line by line, into a lent buffer: the bytes of RULES, The print and no other, with decimals of any length.
+#![tactic(auto)]
+
 ghost use Rattle.std.specs.Prelude.{[], ◌∷◌, ◌+◌, ◌*◌, ◌≤◌, length};
 ghost use Rattle.exact.specs.Table.{entry_of};
 ghost use Rattle.writing.specs.Text.{Wrote};

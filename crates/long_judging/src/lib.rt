@@ -1,5 +1,7 @@
 // The verdict on lengths in digits, over lent slices: accepted exactly where counts and ranges pass, the tree is allowed and for every edge the
 // remainders over the pairs that it parts add to what the rule asks, whatever the denominator's size.
+#![tactic(auto)]
+
 ghost use Rattle.std.specs.Prelude.{◌≡◌, length};
 ghost use Rattle.verdict.specs.Answer.{answer_of};
 ghost use Rattle.fit_theory.specs.Stands.{Posted};

@@ -1,5 +1,7 @@
 // Lengths in digits by themselves: their counts, their digits and signs, and how far a length is from 0. A length is compared with multiples of
 // half a thousandth, digit by digit.
+#![tactic(auto)]
+
 ghost use Rattle.std.specs.Prelude.{◌≡◌, not, ℕ, ◌*◌, ◌≤◌, ◌<◌, eqb, ltb, pos, nat_abs, length, get_or};
 ghost use Rattle.long_digits.specs.Digits.{base};
 ghost use Rattle.long_digits.specs.Clamp.{clamp, most};
@@ -36,7 +38,7 @@ fn term(x: i64, b: i64, d: u32) -> i64
     2000 * x + b * (d as i64)
 }
 
-// 2000·n + typeof.b.D, cut off: its sign.
+// 2000·n + b·D, cut off: its sign.
 pub fn compare(edges: usize, levels: usize, d: &[u32], digits: &[i64], v: usize, b: i64) -> i64
     requires long_edge { LongEdge edges levels d.now digits.now v }
     requires b_bound { nat_abs b ≤ 200000000001 }
@@ -110,7 +112,7 @@ fn denominator_out(d: &[u32]) -> bool
 }
 
 // What a pass over the digits of a numerator looks for: one that is too far from 0, a negative one, a positive one.
-#[derive(Drop)]
+#[derive(Clone, Copy)]
 enum Find {
     Far,
     Below,

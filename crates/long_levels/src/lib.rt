@@ -1,4 +1,6 @@
 // The numbers of a fit in digits, level by level: tables of what each level gives by itself. What a number is, its levels tell by Horner's rule.
+#![tactic(auto)]
+
 ghost use Rattle.std.specs.Prelude.{◌≡◌, ℕ, ◌*◌, ◌≤◌, ◌<◌, pos, nat_abs, ◌-ℤ◌, ◌*ℤ◌, length, get_or};
 ghost use Rattle.exact.specs.Sum.{sum};
 ghost use Rattle.exact.specs.Table.{table, entry_of};

@@ -1,4 +1,6 @@
 // The lines of a long print, but for those of the edges: fit or fit0, length, square, mean.
+#![tactic(auto)]
+
 ghost use Rattle.std.specs.Prelude.{◌≡◌, true, [], ◌∷◌, ℕ, ◌+◌, ◌≤◌, ◌<◌, pos, length, get_or};
 ghost use Rattle.std.specs.Int.Signed.{lt_z};
 ghost use Rattle.tree_theory.specs.Limits.{max_edges};

@@ -1,4 +1,6 @@
 // The numbers of a fit in digits: the tree length, F, and what the mean square is over, each in digits again.
+#![tactic(auto)]
+
 ghost use Rattle.std.specs.Prelude.{◌≡◌, ℕ, ◌*◌, ◌≤◌, ◌<◌, pos, nat_abs, length, get_or};
 ghost use Rattle.exact.specs.Order.{◌≤ᶻ◌};
 ghost use Rattle.exact.specs.Sum.{sum, pairs};
@@ -17,7 +19,7 @@ use long_carrying::WIDE;
 use tree::Tree;
 
 // A whole number in digits, and whether it is negative.
-#[derive(Drop)]
+#[derive(Clone, Copy)]
 pub struct Wide {
     pub negative: bool,
     pub digits: [u32; WIDE],

@@ -1,5 +1,7 @@
 // The print of a long sheet's bytes: its records are read once, the digits of its lengths decoded, judged and printed, at the front of a lent buffer
 // that has room. Any bytes whatever get a print.
+#![tactic(auto)]
+
 ghost use Rattle.std.specs.Prelude.{◌≤◌, length};
 ghost use Rattle.fit_theory.specs.Stands.{Posted};
 ghost use Rattle.long_theory.specs.Tests.{long_proposal_tests};

@@ -1,4 +1,6 @@
 // What a program for long sheets does: it reads a long sheet from standard input and writes its print to standard output.
+#![tactic(auto)]
+
 ghost use Rattle.std.specs.Prelude.{◌≡◌, ◌+◌, ◌≤◌, length};
 ghost use Rattle.pages.specs.Texts.{ShownOn};
 ghost use Rattle.long_records.specs.LongForm.{max_long};
@@ -41,9 +43,9 @@ fn answer(rule: Rule, taken: Taken, space: &[u8], text: &mut [u8]) -> usize
 }
 
 // The whole of a program. Where reading fails it writes nothing to standard output.
-pub fn show(rule: Rule) {
+pub fn show(rt: &(impl Input + Print + Eprint), rule: Rule) {
     let mut space = room();
-    let taken = streams::take_in(&mut space);
+    let taken = streams::take_in(rt, &mut space);
     let mut text = page();
-    streams::put_out(answer(rule, taken, &space, &mut text), &text);
+    streams::put_out(rt, answer(rule, taken, &space, &mut text), &text);
 }

@@ -1,5 +1,7 @@
 // A long sheet of bytes, read once: its matrix and its tree as those of any sheet, and where the digits of its long lengths start. The digits
 // themselves stay where they are.
+#![tactic(auto)]
+
 ghost use Rattle.std.specs.Prelude.{◌≡◌};
 ghost use Rattle.verdict.specs.Answer.{pass};
 ghost use Rattle.records.specs.Form.{start_of};
@@ -13,7 +15,7 @@ use verdict::{Place, Reason, Refusal, Verdict};
 
 // What a long sheet holds: N and the distances, then zeros; where the parents of its tree start and end among the bytes; L and K, and where the
 // digits of D and those of the numerators start.
-#[derive(Drop)]
+#[derive(Clone, Copy)]
 pub struct LongSheet {
     pub verdict: Verdict,
     pub strains: u32,

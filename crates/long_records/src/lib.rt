@@ -1,5 +1,7 @@
 // The form of a long sheet: the records of the matrix and of the tree as in any sheet, then the long lengths in place of the
 // lengths, and nothing else.
+#![tactic(auto)]
+
 ghost use Rattle.records.specs.Laid.{Laid};
 ghost use Rattle.long_records.specs.LongForm.{long_form_tests};
 

@@ -1,7 +1,9 @@
 // Reads a long sheet from standard input and prints its report where no length may be negative, or `refused`, the
 // number and the place. Where reading fails it prints nothing.
+#![tactic(auto)]
+
 use verdict::Rule;
 
-fn main() {
-    long_programs::show(Rule::Drawable);
+fn main(rt: HostRuntime) {
+    long_programs::show(&rt, Rule::Drawable);
 }

@@ -1,4 +1,6 @@
 // The numbers of a fit in digits: its lengths in thousandths, the tree length, F, R and H, and what the mean square is over.
+#![tactic(auto)]
+
 ghost use Rattle.std.specs.Prelude.{◌≡◌, ℕ, ◌≤◌, ◌<◌, nat_abs, length, get_or};
 ghost use Rattle.exact.specs.Nearest.{nearest};
 ghost use Rattle.exact.specs.Table.{entry_of};
@@ -16,7 +18,7 @@ use tree::Tree;
 use verdict::Rule;
 
 // What the mean square is over, in digits, and whether there is such a number.
-#[derive(Drop)]
+#[derive(Clone, Copy)]
 pub struct LongMean {
     pub some: bool,
     pub digits: [u32; WIDE],
@@ -24,7 +26,7 @@ pub struct LongMean {
 
 // The numbers of an accepted fit. The tree length is length / D, the sum of squares f / D, the mean square f over what mean says; the rounded lengths
 // are followed by zeros.
-#[derive(Drop)]
+#[derive(Clone, Copy)]
 pub struct LongReport {
     pub strains: u32,
     pub edges: usize,

@@ -1,4 +1,6 @@
 // The thousandths of a length whose denominator and numerator are written in digits, found by halving.
+#![tactic(auto)]
+
 ghost use Rattle.std.specs.Prelude.{◌≡◌, ◌≤◌, pos, nat_abs};
 ghost use Rattle.exact.specs.Nearest.{nearest};
 ghost use Rattle.long_digits.specs.Clamp.{clamp, most};

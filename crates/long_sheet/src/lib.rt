@@ -1,5 +1,7 @@
 // A long sheet of bytes, judged: its records are read once, the digits of its lengths decoded, and all is lent to the verdict. Any bytes
 // whatever get an answer.
+#![tactic(auto)]
+
 ghost use Rattle.std.specs.Prelude.{◌≡◌};
 ghost use Rattle.verdict.specs.Answer.{answer_of, number};
 ghost use Rattle.long_sheet.specs.LongSheets.{long_sheet_tests};
@@ -34,24 +36,22 @@ pub fn long_judge(rule: Rule, s: &[u8]) -> Verdict
     )
 }
 
-// The number that a long sheet gets by a rule. The entries for C share it.
+// The number that a long sheet gets by a rule. The two verdicts share it.
 fn long_number(rule: Rule, s: &[u8]) -> u32
     ensures { result ≡ number (long_sheet_tests rule s.now) }
 {
     verdict::number(long_judge(rule, s))
 }
 
-// The number that a long sheet gets, for a program in C: 0 where it is accepted.
-#[unsafe(no_mangle)]
-pub extern "C" fn long_verdict(s: &[u8]) -> u32
+// The number that a long sheet gets, 0 where it is accepted. The crate long_sheet_c exports both verdicts to C.
+pub fn long_verdict(s: &[u8]) -> u32
     ensures { result ≡ number (long_sheet_tests Rule.Plain s.now) }
 {
     long_number(Rule::Plain, s)
 }
 
 // The same where no length may be negative.
-#[unsafe(no_mangle)]
-pub extern "C" fn long_verdict0(s: &[u8]) -> u32
+pub fn long_verdict0(s: &[u8]) -> u32
     ensures { result ≡ number (long_sheet_tests Rule.Drawable s.now) }
 {
     long_number(Rule::Drawable, s)

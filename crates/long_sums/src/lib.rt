@@ -1,5 +1,7 @@
 // For each edge the sum of the remainders of the pairs that it parts, of lengths whose denominator and numerators are written in
 // digits: the sums of each digit, the highest first, each cut off where it is large.
+#![tactic(auto)]
+
 ghost use Rattle.std.specs.Prelude.{◌≡◌, ◌*◌, ◌≤◌, pos, nat_abs, ◌+ℤ◌, ◌*ℤ◌, length};
 ghost use Rattle.exact.specs.Table.{table, entry_of};
 ghost use Rattle.long_digits.specs.Digits.{base};

@@ -1,4 +1,6 @@
 // Numbers in digits of base 1,000,000 written as decimals into a lent buffer: the first digit that is not zero, then six decimals a digit.
+#![tactic(auto)]
+
 ghost use Rattle.std.specs.Prelude.{◌≡◌, ℕ, ◌+◌, ◌-◌, ◌*◌, ◌≤◌, ◌<◌, length, get_or};
 ghost use Rattle.long_digits.specs.Digits.{base, natural};
 ghost use Rattle.writing.specs.Text.{Wrote};

@@ -1,4 +1,6 @@
 // The matrix of distances: its limits, its tests, and where a pair of strains stands.
+#![tactic(auto)]
+
 ghost use Rattle.std.specs.Prelude.{◌≡◌, false, ◌≢◌, ◌+◌, ◌≤◌, ◌<◌, length, get_or};
 ghost use Rattle.exact.specs.Table.{table};
 ghost use Rattle.verdict.specs.Answer.{fault, answer_of, reason_number};
@@ -11,14 +13,14 @@ ghost use Rattle.matrix.specs.Surveys.{Looked, Surveyed};
 use verdict::{Place, Reason, Refusal, Verdict};
 
 // The distances between n strains, in the order 01, 02, 12, 03, 13, 23, .., then zeros: a strain appends.
-#[derive(Drop)]
+#[derive(Clone, Copy)]
 pub struct Matrix {
     pub n: usize,
     pub distances: [u16; Matrix::MAX_PAIRS],
 }
 
 // What a lent matrix gets: the answer, and the matrix where it is accepted.
-#[derive(Drop)]
+#[derive(Clone, Copy)]
 pub struct Measured {
     pub verdict: Verdict,
     pub matrix: Matrix,
@@ -59,7 +61,7 @@ impl Matrix {
 }
 
 // The limits as the code has them; the contract says that the definitions have the same.
-#[derive(Drop)]
+#[derive(Clone, Copy)]
 pub struct Limits {
     pub fewest: usize,
     pub most: usize,
@@ -128,7 +130,7 @@ pub fn row_below(n: usize, i: usize, j: usize, row: usize) -> usize
 
 // What a look at every distance shows: whether one is above its limit, and whether one is missing. No turn ends it, so that it goes through
 // several distances at once.
-#[derive(Drop)]
+#[derive(Clone, Copy)]
 struct Seen {
     out: bool,
     missing: bool,
@@ -155,7 +157,7 @@ fn look(distances: &[u16]) -> Seen
 }
 
 // The answer to a matrix, and where it passes whether some pair is missing.
-#[derive(Drop)]
+#[derive(Clone, Copy)]
 pub struct Survey {
     pub verdict: Verdict,
     pub missing: bool,

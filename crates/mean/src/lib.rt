@@ -1,11 +1,13 @@
 // The mean square of a fit: what F is divided by, or that there is nothing to divide by or a pair is missing.
+#![tactic(auto)]
+
 ghost use Rattle.std.specs.Prelude.{◌≡◌, ◌-◌, ◌≤◌};
 ghost use Rattle.matrix.specs.Limits.{max_pairs};
 ghost use Rattle.matrix.specs.Proper.{Proper};
 ghost use Rattle.mean.specs.Mean.{times, mean_of};
 
 // The second number of the mean square; the first is F.
-#[derive(Drop)]
+#[derive(Clone, Copy)]
 pub enum Mean {
     None,
     Over(i64),

@@ -1,6 +1,8 @@
 // Where strains meet: the ways of strains up the tree, the remainders of the pairs that meet at a vertex, and what each gives to
 // the shares of the vertices. The steps are those of Bryant and Waddell (1998, algorithm FASTMTM); the equation numbers
 // at the steps are theirs.
+#![tactic(auto)]
+
 ghost use Rattle.std.specs.Prelude.{◌≡◌, ℕ, ◌+◌, ◌*◌, ◌^◌, ◌<◌, ◌≤◌, true, ◌≢◌, length, ℤ, pos, ◌+ℤ◌, count_ones, unsigned_abs};
 ghost use Rattle.exact.specs.Table.{table, entry_of};
 ghost use Rattle.matrix.specs.Limits.{max_strains};
@@ -43,7 +45,7 @@ fn give(own: &mut [i64; Tree::MAX_VERTICES], j: usize, m: usize, r: i64)
 }
 
 // A strain of a mask, and the mask without it.
-#[derive(Drop)]
+#[derive(Clone, Copy)]
 pub struct Low {
     pub strain: usize,
     pub rest: u64,

@@ -1,11 +1,13 @@
 // A table of the edges moved along the path of two vertices: the edges that part the two are touched, and no other.
+#![tactic(auto)]
+
 ghost use Rattle.std.specs.Prelude.{◌≡◌, ◌≢◌, ◌≤◌};
 ghost use Rattle.moving.specs.Moved.{Moved, Movable, Ordered};
 
 use tree::Tree;
 
 // The ends of a path, the lower vertex and the higher one.
-#[derive(Drop)]
+#[derive(Clone, Copy)]
 pub struct Ends {
     pub low: usize,
     pub high: usize,

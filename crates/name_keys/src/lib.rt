@@ -1,5 +1,7 @@
 // A name found among the names of a record by its key, a small number that is the same for the same bytes. A table has for each key the first
 // strain whose name has it: that strain's name is compared, and only where it is another one are all names gone through.
+#![tactic(auto)]
+
 ghost use Rattle.std.specs.Prelude.{◌≡◌, ◌≤◌, length};
 ghost use Rattle.matrix.specs.Limits.{max_strains};
 ghost use Rattle.records.specs.Names.{name_start};

@@ -1,5 +1,7 @@
 // The names of strains: what a name is, the names of a names record, and which strain has a name. Names stand one behind
 // the other, each with a length byte before it; `from` is where the first one begins.
+#![tactic(auto)]
+
 ghost use Rattle.std.specs.Prelude.{◌≡◌, false, ◌+◌, ◌<◌, ◌≤◌, length, drop};
 ghost use Rattle.exact.specs.Table.{table, padded};
 ghost use Rattle.matrix.specs.Limits.{max_strains};
@@ -17,7 +19,7 @@ use verdict::{Place, Reason, Refusal, Verdict};
 pub const KEYS: usize = 256;
 
 // The answer to a names record that is lent by itself, and how many names it has; 0 where it is refused.
-#[derive(Drop)]
+#[derive(Clone, Copy)]
 pub struct Named {
     pub verdict: Verdict,
     pub count: usize,

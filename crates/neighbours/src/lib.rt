@@ -1,5 +1,7 @@
 // The neighbours of an edge of a resolved tree: the children of each vertex in one table, the two other edges at the
 // upper end of an edge, and how many strains stand there. Every tree has an edge for each of its parents.
+#![tactic(auto)]
+
 ghost use Rattle.std.specs.Prelude.{◌≡◌, ◌≤◌, ◌<◌, length};
 ghost use Rattle.exact.specs.Table.{table};
 ghost use Rattle.tree_theory.specs.Limits.{max_edges, max_vertices};

@@ -1,5 +1,7 @@
 // Reads a sheet with names from standard input and prints the text of its fitted tree, or `refused`, the number and the place. Where reading
 // fails it prints nothing.
+#![tactic(auto)]
+
 ghost use Rattle.std.specs.Prelude.{◌≡◌, ◌+◌, length};
 ghost use Rattle.records.specs.Form.{max_named};
 
@@ -12,12 +14,13 @@ fn room() -> [u8; Layout::MAX_NAMED + 1]
     [0; Layout::MAX_NAMED + 1]
 }
 
-fn main() {
+fn main(rt: HostRuntime) {
     let mut space = room();
-    let taken = streams::take_in(&mut space);
+    let taken = streams::take_in(&rt, &mut space);
     if taken.whole {
         let mut out = newick_pages::page();
         streams::put_out(
+            &rt,
             newick_pages::newick_print(&space[..taken.count], &mut out),
             &out,
         );

@@ -1,5 +1,7 @@
 // The tables of a text that is known to be of the form: an inner vertex gets its number as its bracket closes, and the entries of its
 // children are set on the way back. A call for each vertex: so a text comes here only once its leaves are known to be few.
+#![tactic(auto)]
+
 ghost use Rattle.std.specs.Prelude.{◌≡◌, ◌+◌, ◌≤◌, length, set};
 ghost use Rattle.records.specs.Form.{head_size};
 ghost use Rattle.names.specs.Record.{place_of};
@@ -11,7 +13,7 @@ use names::KEYS;
 use records::Layout;
 
 // What is known behind a vertex: where it ends, its number, and the next number for a bracket.
-#[derive(Drop)]
+#[derive(Clone, Copy)]
 pub struct Step {
     pub end: usize,
     pub number: usize,

@@ -1,5 +1,7 @@
 // The form of a tree in text (RULES, Trees in text), judged before anything is read from it. The judge calls itself for each bracket that
 // opens within another, 62 at the most, and goes along the vertices of one bracket in a loop: so their number is no matter.
+#![tactic(auto)]
+
 ghost use Rattle.std.specs.Prelude.{◌≡◌, ◌≤◌, eqb, length};
 ghost use Rattle.newick_text.specs.Count.{occurs};
 ghost use Rattle.newick_form.specs.Form.{FormRead, TextRead};
@@ -10,7 +12,7 @@ use newick_words::MAX_TEXT;
 pub const MAX_OPEN: usize = 62;
 
 // Where a vertex ends, or that none stands there.
-#[derive(Drop)]
+#[derive(Clone, Copy)]
 enum End {
     Nowhere,
     At(usize),

@@ -1,5 +1,7 @@
 // What is shown of a sheet with names: the text of its fitted tree and a line end, or its refusal, at the front of a lent buffer of a page
 // or more.
+#![tactic(auto)]
+
 ghost use Rattle.std.specs.Prelude.{◌≡◌, length};
 ghost use Rattle.pages.specs.Texts.{ShownOn};
 ghost use Rattle.newick_pages.specs.Texts.{newick_text, newick_page};
@@ -17,10 +19,9 @@ pub fn page() -> [u8; PAGE]
     [0; PAGE]
 }
 
-// The print of a sheet with names, for a program in C too, at the front of a buffer of 65,537 bytes or more; a smaller one is left as it was.
-// The result is how many bytes the print has, 0 where the buffer is too small.
-#[unsafe(no_mangle)]
-pub extern "C" fn newick_print(s: &[u8], text: &mut [u8]) -> usize
+// The print of a sheet with names, at the front of a buffer of 65,537 bytes or more; a smaller one is left as it was. The result is how many
+// bytes the print has, 0 where the buffer is too small. The crate newick_pages_c exports it to C.
+pub fn newick_print(s: &[u8], text: &mut [u8]) -> usize
     ensures { ShownOn newick_page (newick_text s.now) text.old text.new result }
 {
     if text.len() < PAGE {

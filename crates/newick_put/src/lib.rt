@@ -1,5 +1,7 @@
 // The text of a tree, written from a table of parents: the writer goes from a vertex to its children, in rising number. Nothing is
 // tested here.
+#![tactic(auto)]
+
 ghost use Rattle.std.specs.Prelude.{◌≡◌, ◌∷◌, ◌++◌, ◌+◌, ◌≤◌, ◌<◌, length, get_or, take, drop};
 ghost use Rattle.writing.specs.Text.{Wrote};
 ghost use Rattle.newick_text.specs.Length.{thousandths, length_text};

@@ -1,5 +1,7 @@
 // The reader of trees in text, into lent buffers: names and text are gone through and judged first, the buffers are filled after. A
 // refusal leaves them as they were.
+#![tactic(auto)]
+
 ghost use Rattle.std.specs.Prelude.{◌≡◌, not, ◌||◌, ◌≤◌, eqb, length, take};
 ghost use Rattle.verdict.specs.Answer.{answer_of};
 ghost use Rattle.newick_read.specs.Answers.{SizesAnswer, Reads, NumberAnswer};
@@ -7,7 +9,7 @@ ghost use Rattle.newick_read.specs.Answers.{SizesAnswer, Reads, NumberAnswer};
 use verdict::{Reason, Verdict};
 
 // How many strains a names record has and how many edges the text's tree, where both pass: so many entries the buffers must have.
-#[derive(Drop)]
+#[derive(Clone, Copy)]
 pub struct Sizes {
     pub verdict: Verdict,
     pub strains: usize,
@@ -88,14 +90,8 @@ pub fn read(names: &[u8], text: &[u8], parents: &mut [u8], numerators: &mut [i64
     Verdict::Accepted
 }
 
-// The same for a program in C: the number, 0 where both buffers are filled.
-#[unsafe(no_mangle)]
-pub extern "C" fn newick_read(
-    names: &[u8],
-    text: &[u8],
-    parents: &mut [u8],
-    numerators: &mut [i64],
-) -> u32
+// The same as a number, 0 where both buffers are filled. The crate newick_read_c exports it to C.
+pub fn newick_read(names: &[u8], text: &[u8], parents: &mut [u8], numerators: &mut [i64]) -> u32
     ensures { NumberAnswer names.now text.now parents.old parents.new numerators.old numerators.new result }
 {
     verdict::number(read(names, text, parents, numerators))

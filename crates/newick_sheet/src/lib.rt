@@ -1,5 +1,7 @@
 // The fitted tree of a sheet with names as Newick text: the sheet is judged as any other, with its names between the form and what its
 // records hold, and written after.
+#![tactic(auto)]
+
 ghost use Rattle.std.specs.Prelude.{◌≡◌, length};
 ghost use Rattle.verdict.specs.Answer.{pass};
 ghost use Rattle.records.specs.Form.{form_tests};
@@ -13,7 +15,7 @@ use verdict::{Place, Reason, Refusal, Rule, Verdict};
 
 // The fit of a sheet with names: its strains, where its parents start and end among the bytes, its edges and their lengths in
 // thousandths, then zeros.
-#[derive(Drop)]
+#[derive(Clone, Copy)]
 struct Fitting {
     verdict: Verdict,
     strains: usize,

@@ -1,5 +1,7 @@
 // A text beside a names record, gone through once: what they are refused for, or how many strains and edges there are and the tables. The
 // form is judged first and the leaves are counted, so that the filling, which calls itself for each vertex, meets few.
+#![tactic(auto)]
+
 ghost use Rattle.std.specs.Prelude.{◌≡◌, false, ◌≤◌, eqb, length, get_or};
 ghost use Rattle.verdict.specs.Answer.{answer_of};
 ghost use Rattle.verdict.specs.Table.{some};
@@ -30,7 +32,7 @@ fn strains_out(n: usize) -> bool
 }
 
 // How many edges a text's tree has, and its parents and numerators, each in a table for as many edges as a tree may have.
-#[derive(Drop)]
+#[derive(Clone, Copy)]
 pub struct Tables {
     pub edges: usize,
     pub parents: [u8; Tree::MAX_EDGES],
@@ -100,7 +102,7 @@ fn judged(n: usize, found: Tables) -> Verdict
 }
 
 // What a text shows: the answer, and where it passes how many strains and edges there are, and the tables at the front of their room.
-#[derive(Drop)]
+#[derive(Clone, Copy)]
 pub struct Survey {
     pub verdict: Verdict,
     pub strains: usize,

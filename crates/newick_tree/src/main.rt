@@ -1,5 +1,7 @@
 // Reads a names record with a tree in text right behind it from standard input and prints the tree's table, or `refused`, the number and the
 // place. Where reading fails it prints nothing.
+#![tactic(auto)]
+
 ghost use Rattle.std.specs.Prelude.{◌≡◌, [], ◌∷◌, ◌+◌, ◌*◌, ◌≤◌, pos, length, take};
 ghost use Rattle.verdict.specs.Answer.{pass, answer_of};
 ghost use Rattle.matrix.specs.Limits.{max_strains};
@@ -112,11 +114,11 @@ fn answer(s: &[u8], text: &mut [u8]) -> usize
     survey_text(newick_survey::survey_text(&s[..end], &s[end..]), text)
 }
 
-fn main() {
+fn main(rt: HostRuntime) {
     let mut space = room();
-    let taken = streams::take_in(&mut space);
+    let taken = streams::take_in(&rt, &mut space);
     if taken.whole {
         let mut out = pages::page();
-        streams::put_out(answer(&space[..taken.count], &mut out), &out);
+        streams::put_out(&rt, answer(&space[..taken.count], &mut out), &out);
     }
 }

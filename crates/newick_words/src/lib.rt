@@ -1,5 +1,7 @@
 // The words of a tree in text: where a name ends, where a length ends, and its thousandths. Each is read where it stands, in one pass over
 // its bytes.
+#![tactic(auto)]
+
 ghost use Rattle.std.specs.Prelude.{◌≡◌, true, ◌&&◌, ◌+◌, ◌-◌, ◌≤◌, eqb, ltb, length, get_or, drop};
 ghost use Rattle.newick_text.specs.Length.{sign_size, length_there};
 ghost use Rattle.newick_words.specs.Words.{name_width, length_width, edge_width, DigitsRead, LengthRead};
@@ -92,7 +94,7 @@ pub fn edge_end(text: &[u8], at: usize) -> usize
 }
 
 // Digits that were read: where they end, and the number that they are, cut.
-#[derive(Drop)]
+#[derive(Clone, Copy)]
 struct Digits {
     end: usize,
     number: u64,
@@ -117,7 +119,7 @@ fn digits_at(text: &[u8], at: usize) -> Digits
 }
 
 // A length that was read: where it ends, and its thousandths, cut.
-#[derive(Drop)]
+#[derive(Clone, Copy)]
 pub struct Length {
     pub end: usize,
     pub thousandths: i64,

@@ -1,5 +1,7 @@
 // Trees written as Newick text without a fit: names, a table of parents and thousandths are judged first, the front of the lent buffer is
 // filled after. Nothing behind the text changes, and a refusal changes nothing.
+#![tactic(auto)]
+
 ghost use Rattle.std.specs.Prelude.{◌≡◌, length};
 ghost use Rattle.writing.specs.Text.{Wrote};
 ghost use Rattle.newick_write.specs.Answers.{tree_text, strains_cut, Tellable, Judged, WriteAnswer, NumberAnswer};
@@ -11,7 +13,7 @@ use records::Layout;
 use verdict::{Reason, Refusal, Verdict};
 
 // What came of writing: the answer, and how many bytes the text has, 0 where it is refused.
-#[derive(Drop)]
+#[derive(Clone, Copy)]
 pub struct Written {
     pub verdict: Verdict,
     pub length: usize,
@@ -97,9 +99,9 @@ pub fn write(names: &[u8], parents: &[u8], thousandths: &[i64], text: &mut [u8])
     }
 }
 
-// The same for a program in C: the number, and where it is 0 the length of the text in `length`; otherwise that is left as it was too.
-#[unsafe(no_mangle)]
-pub extern "C" fn newick_write(
+// The same as a number, and where it is 0 the length of the text in `length`; otherwise that is left as it was too. The crate newick_write_c
+// exports it to C.
+pub fn newick_write(
     names: &[u8],
     parents: &[u8],
     thousandths: &[i64],

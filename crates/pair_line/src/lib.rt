@@ -1,4 +1,6 @@
 // The line of a pair (RULES, The pairs of a fit), written into a lent buffer.
+#![tactic(auto)]
+
 ghost use Rattle.std.specs.Prelude.{[], ◌∷◌, ◌++◌, ◌+◌, ◌≤◌, pos, nat_abs, ◌-ℤ◌, ◌*ℤ◌, length, get_or};
 ghost use Rattle.matrix.specs.Place.{is_measured, known};
 ghost use Rattle.writing.specs.Text.{Wrote};

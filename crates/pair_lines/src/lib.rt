@@ -1,4 +1,6 @@
 // The print of the pairs of a fit, line by line, into a lent buffer: the bytes of RULES, The pairs of a fit and no other.
+#![tactic(auto)]
+
 ghost use Rattle.std.specs.Prelude.{◌≡◌, ℕ, ◌+◌, ◌*◌, ◌-◌, ◌≤◌, ◌<◌, length, get_or};
 ghost use Rattle.exact.specs.Table.{entry_of};
 ghost use Rattle.matrix.specs.Place.{pair_count};

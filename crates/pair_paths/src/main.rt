@@ -1,5 +1,7 @@
 // Reads a sheet, with names or without, from standard input and prints its pairs, a line for each, or `refused`, the number and the place.
 // Where reading fails it prints nothing.
+#![tactic(auto)]
+
 ghost use Rattle.std.specs.Prelude.{◌≡◌, ◌+◌, length};
 ghost use Rattle.records.specs.Form.{max_named};
 
@@ -12,12 +14,13 @@ fn room() -> [u8; Layout::MAX_NAMED + 1]
     [0; Layout::MAX_NAMED + 1]
 }
 
-fn main() {
+fn main(rt: HostRuntime) {
     let mut space = room();
-    let taken = streams::take_in(&mut space);
+    let taken = streams::take_in(&rt, &mut space);
     if taken.whole {
         let mut out = paths_pages::page();
         streams::put_out(
+            &rt,
             paths_pages::paths_print(&space[..taken.count], &mut out),
             &out,
         );

@@ -1,10 +1,12 @@
 // Pairs of strains: the order in which loops visit them.
+#![tactic(auto)]
+
 ghost use Rattle.std.specs.Prelude.{◌≡◌, ◌<◌};
 ghost use Rattle.matrix.specs.Limits.{max_strains};
 ghost use Rattle.pairs.specs.Next.{next_pair};
 
 // Two strains, the first below the second.
-#[derive(Drop)]
+#[derive(Clone, Copy)]
 pub struct Pair {
     pub i: usize,
     pub j: usize,

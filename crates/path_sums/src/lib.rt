@@ -1,6 +1,8 @@
 // For each edge of an allowed tree the paths of the pairs that it parts, added up. A pass up the tree tells of each vertex how many strains are
 // below it and the paths from them up to it; a pass down tells of each vertex the paths from it to all strains. A path that goes over an edge is a
 // path up to the edge's lower end and a path on from there, so both passes together are linear in the strains.
+#![tactic(auto)]
+
 ghost use Rattle.std.specs.Prelude.{◌≡◌, ◌≤◌, ◌<◌, ◌^◌, pos, nat_abs, ◌+ℤ◌, ◌-ℤ◌, ◌*ℤ◌};
 ghost use Rattle.exact.specs.Table.{table, entry_of};
 ghost use Rattle.matrix.specs.Limits.{max_strains};

@@ -1,5 +1,7 @@
 // What is shown of the pairs of a sheet, with names or without: a line for each pair, or the refusal, at the front of a lent buffer of a page
 // or more.
+#![tactic(auto)]
+
 ghost use Rattle.std.specs.Prelude.{◌≡◌, ◌≤◌, ◌<◌, length};
 ghost use Rattle.verdict.specs.Answer.{pass, ◌or_else◌};
 ghost use Rattle.writing.specs.Text.{Wrote};
@@ -65,10 +67,9 @@ fn print_pairs(s: &[u8], count: usize, names: &[u8], from: usize, text: &mut [u8
     )
 }
 
-// The print of the pairs of a sheet, for a program in C too, at the front of a buffer of 262,144 bytes or more; a smaller one is left as it was.
-// The result is how many bytes the print has, 0 where the buffer is too small.
-#[unsafe(no_mangle)]
-pub extern "C" fn paths_print(s: &[u8], text: &mut [u8]) -> usize
+// The print of the pairs of a sheet, at the front of a buffer of 262,144 bytes or more; a smaller one is left as it was. The result is how many
+// bytes the print has, 0 where the buffer is too small. The crate paths_pages_c exports it to C.
+pub fn paths_print(s: &[u8], text: &mut [u8]) -> usize
     ensures shown_on { ShownOn pairs_page (paths_text s.now) text.old text.new result }
     ensures paths_close { PathsClose s.now }
 {

@@ -1,5 +1,7 @@
 // Reads a square matrix of PHYLIP from standard input and writes it to standard output in our form, or `refused` and the number. Where
 // reading fails it writes nothing.
+#![tactic(auto)]
+
 ghost use Rattle.std.specs.Prelude.{◌≡◌, ◌+◌, ◌*◌, ◌≤◌, length};
 ghost use Rattle.matrix.specs.Place.{pair_count};
 ghost use Rattle.writing.specs.Text.{Wrote};
@@ -75,11 +77,11 @@ fn again(text: &[u8], out: &mut [u8]) -> usize
     rewritten(text, n, &mut distances[..pairs], &mut names[..bytes], out)
 }
 
-fn main() {
+fn main(rt: HostRuntime) {
     let mut space = room();
-    let taken = streams::take_in(&mut space);
+    let taken = streams::take_in(&rt, &mut space);
     if taken.whole {
         let mut out = page();
-        streams::put_out(again(&space[..taken.count], &mut out), &out);
+        streams::put_out(&rt, again(&space[..taken.count], &mut out), &out);
     }
 }

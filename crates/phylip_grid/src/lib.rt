@@ -1,5 +1,7 @@
 // The grid that a text's cells were read into: whether its halves and its diagonal are as they must be, and its distances by
 // strains. Row i stands from 64·i on.
+#![tactic(auto)]
+
 ghost use Rattle.std.specs.Prelude.{◌≡◌, cond, not, ◌+◌, ◌*◌, ◌≤◌, ◌<◌, eqb, length};
 ghost use Rattle.verdict.specs.Table.{some};
 ghost use Rattle.matrix.specs.Limits.{max_strains};

@@ -1,4 +1,6 @@
 // The lines of a square matrix in a text: blanks, where a line ends and the next begins, and the count of the first line.
+#![tactic(auto)]
+
 ghost use Rattle.std.specs.Prelude.{◌≡◌, not, ◌&&◌, ◌+◌, ◌≤◌, eqb, length, drop};
 ghost use Rattle.phylip_text.specs.Form.{line_end_size};
 ghost use Rattle.phylip_lines.specs.Lines.{EndRead, CountRead};
@@ -30,7 +32,7 @@ fn unended(at: usize, length: usize, size: usize) -> bool
 }
 
 // What ends a line: whether nothing does, and where the next line begins.
-#[derive(Drop)]
+#[derive(Clone, Copy)]
 pub struct LineEnd {
     pub bad: bool,
     pub next: usize,
@@ -50,7 +52,7 @@ pub fn line_end(text: &[u8], at: usize) -> LineEnd
 }
 
 // The count of a text: whether there is none, what it is, cut, and where it ends.
-#[derive(Drop)]
+#[derive(Clone, Copy)]
 pub struct Count {
     pub none: bool,
     pub strains: u64,

@@ -1,4 +1,6 @@
 // The text of a square matrix, written into a buffer piece by piece: cells, rows, the whole. Nothing is tested here.
+#![tactic(auto)]
+
 ghost use Rattle.std.specs.Prelude.{◌≡◌, ◌+◌, ◌*◌, ◌≤◌, ◌<◌, length};
 ghost use Rattle.matrix.specs.Limits.{max_strains};
 ghost use Rattle.matrix.specs.Place.{pair_count};

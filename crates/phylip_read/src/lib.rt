@@ -1,5 +1,7 @@
 // The square matrices of PHYLIP, read into lent buffers: the text is gone through and judged first, the buffers are filled after. A
 // refusal leaves them as they were.
+#![tactic(auto)]
+
 ghost use Rattle.std.specs.Prelude.{◌≡◌, ◌*◌, ◌≤◌};
 ghost use Rattle.exact.specs.Table.{table};
 ghost use Rattle.matrix.specs.Limits.{max_strains};
@@ -60,9 +62,8 @@ pub fn read(text: &[u8], distances: &mut [u16], names: &mut [u8]) -> Verdict
     Verdict::Accepted
 }
 
-// The same for a program in C: the number, 0 where both buffers are filled.
-#[unsafe(no_mangle)]
-pub extern "C" fn phylip_read(text: &[u8], distances: &mut [u16], names: &mut [u8]) -> u32
+// The same as a number, 0 where both buffers are filled. The crate phylip_read_c exports it to C.
+pub fn phylip_read(text: &[u8], distances: &mut [u16], names: &mut [u8]) -> u32
     ensures { NumberAnswer text.now distances.old distances.new names.old names.new result }
 {
     verdict::number(read(text, distances, names))

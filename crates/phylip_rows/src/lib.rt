@@ -1,5 +1,7 @@
 // The rows of a square matrix in a text: names and cells, read in one pass into a grid of entries and a table of names. Row i has its
 // entries from 64·i on, strain i its name from 10·i on.
+#![tactic(auto)]
+
 ghost use Rattle.std.specs.Prelude.{◌≡◌, ◌+◌, ◌*◌, ◌≤◌, length};
 ghost use Rattle.matrix.specs.Limits.{max_strains};
 ghost use Rattle.phylip_text.specs.Form.{name_out, name_size};

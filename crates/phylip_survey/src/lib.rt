@@ -1,5 +1,7 @@
 // A text that may be a square matrix of PHYLIP, gone through once: what it is refused for, or its cells in a grid and its names in a
 // table.
+#![tactic(auto)]
+
 ghost use Rattle.std.specs.Prelude.{◌≡◌, ◌||◌, ◌*◌, ◌≤◌, ltb, length};
 ghost use Rattle.matrix.specs.Limits.{min_strains, max_strains};
 ghost use Rattle.phylip_text.specs.Form.{name_size};
@@ -22,7 +24,7 @@ fn strains_out(count: u64) -> bool
 }
 
 // What the first line shows: the answer to it, and where it passes how many strains there are and where the rows begin.
-#[derive(Drop)]
+#[derive(Clone, Copy)]
 struct Head {
     verdict: Verdict,
     strains: usize,
@@ -49,7 +51,7 @@ fn read_head(text: &[u8]) -> Head
 }
 
 // What the text shows: the answer to it, and where it passes how many strains it has.
-#[derive(Drop)]
+#[derive(Clone, Copy)]
 pub struct Survey {
     pub verdict: Verdict,
     pub strains: usize,

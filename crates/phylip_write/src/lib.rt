@@ -1,5 +1,7 @@
 // The square matrices of PHYLIP, written: a matrix and names are judged first, the front of the lent buffer is filled after. Nothing
 // behind the text changes, and a refusal changes nothing.
+#![tactic(auto)]
+
 ghost use Rattle.std.specs.Prelude.{◌≡◌, length};
 ghost use Rattle.verdict.specs.Answer.{answer_of};
 ghost use Rattle.phylip_text.specs.Tests.{name_byte_out, write_tests};
@@ -41,7 +43,7 @@ fn check_matter(n: u32, distances: &[u16], names: &[u8], room: usize) -> Verdict
 }
 
 // What came of writing: the answer, and how many bytes the text has, 0 where it is refused.
-#[derive(Drop)]
+#[derive(Clone, Copy)]
 pub struct Written {
     pub verdict: Verdict,
     pub length: usize,
@@ -64,9 +66,9 @@ pub fn write(n: u32, distances: &[u16], names: &[u8], text: &mut [u8]) -> Writte
     }
 }
 
-// The same for a program in C: the number, and where it is 0 the length of the text in `length`; otherwise that is left as it was too.
-#[unsafe(no_mangle)]
-pub extern "C" fn phylip_write(
+// The same as a number, and where it is 0 the length of the text in `length`; otherwise that is left as it was too. The crate phylip_write_c
+// exports it to C.
+pub fn phylip_write(
     n: u32,
     distances: &[u16],
     names: &[u8],

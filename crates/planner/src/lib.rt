@@ -1,5 +1,7 @@
 // A customer of the sheet room: of two sheets fitted to one matrix, which tree is shorter, and its third record as it lies in
 // the sheet. It is proved from the contracts of the rooms below and from the laws that they keep for customers.
+#![tactic(auto)]
+
 ghost use Rattle.std.specs.Prelude.{◌≡◌, length};
 ghost use Rattle.verdict.specs.Answer.{pass};
 ghost use Rattle.records.specs.Form.{start_of};
@@ -10,7 +12,7 @@ ghost use Rattle.planner.specs.Part.{Part, Handed, Shorter};
 use verdict::{Place, Reason, Refusal, Rule, Verdict};
 
 // Which of two sheets has the shorter tree, or why they are not compared.
-#[derive(Drop)]
+#[derive(Clone, Copy)]
 pub enum Choice {
     Refused(Refusal),
     First,

@@ -1,4 +1,6 @@
 // A matrix and a tree tested together, as they are posted: whatever needs both asks here first.
+#![tactic(auto)]
+
 ghost use Rattle.std.specs.Prelude.{◌≡◌};
 ghost use Rattle.verdict.specs.Answer.{answer_of};
 ghost use Rattle.fit_theory.specs.Stands.{Shaped};

@@ -1,4 +1,6 @@
 // What a program does: it reads a sheet from standard input and writes its print to standard output.
+#![tactic(auto)]
+
 ghost use Rattle.std.specs.Prelude.{◌≤◌, length};
 ghost use Rattle.pages.specs.Texts.{Shown};
 ghost use Rattle.programs.specs.Answers.{answer_text};
@@ -6,7 +8,7 @@ ghost use Rattle.programs.specs.Answers.{answer_text};
 use streams::Taken;
 
 // Which print is asked for, by the name of the program.
-#[derive(Drop)]
+#[derive(Clone, Copy)]
 pub enum Print {
     Report,
     Report0,
@@ -32,9 +34,9 @@ fn answer(print: Print, taken: Taken, space: &[u8], text: &mut [u8]) -> usize
 }
 
 // The whole of a program. Where reading fails it writes nothing to standard output.
-pub fn show(print: Print) {
+pub fn show(rt: &(impl Input + std::io::Print + Eprint), print: Print) {
     let mut space = streams::room();
-    let taken = streams::take_in(&mut space);
+    let taken = streams::take_in(rt, &mut space);
     let mut text = pages::page();
-    streams::put_out(answer(print, taken, &space, &mut text), &text);
+    streams::put_out(rt, answer(print, taken, &space, &mut text), &text);
 }

@@ -1,6 +1,8 @@
 // A sheet of bytes, read once. A sheet is three records, one behind the other, and nothing else: the matrix,
 // the tree and the lengths. A sheet without lengths is the first two; one with names has a fourth, which the
 // form asks its counts and which is not read here.
+#![tactic(auto)]
+
 ghost use Rattle.std.specs.Prelude.{◌≡◌, ◌-◌, ◌≤◌, pos};
 ghost use Rattle.exact.specs.Table.{table};
 ghost use Rattle.verdict.specs.Answer.{pass};
@@ -17,7 +19,7 @@ use verdict::{Place, Reason, Refusal, Verdict};
 
 // What a sheet holds beside its two tables: N, and how many pairs there are; where the parents of its tree start and end among the
 // bytes; D and K. Without lengths D and K are 0.
-#[derive(Drop)]
+#[derive(Clone, Copy)]
 pub struct Outline {
     pub verdict: Verdict,
     pub strains: u32,
@@ -30,7 +32,7 @@ pub struct Outline {
 
 // What a sheet holds: N and the distances, then zeros; where the parents of its tree start and end among the
 // bytes; D, K and the numerators, then zeros. Without lengths D and K are 0.
-#[derive(Drop)]
+#[derive(Clone, Copy)]
 pub struct Sheet {
     pub verdict: Verdict,
     pub strains: u32,
@@ -44,7 +46,7 @@ pub struct Sheet {
 }
 
 // What the lengths of a sheet are beside their numerators, and the answer to their count.
-#[derive(Drop)]
+#[derive(Clone, Copy)]
 struct Proposal {
     verdict: Verdict,
     denominator: u32,

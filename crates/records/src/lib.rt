@@ -6,6 +6,8 @@
 //   long     = kind 4: L (2), K (2), then the L digits of D and L levels of K digits (4 each, those of the levels two's complement);
 //              in place of the lengths, in a long sheet
 //   names    = kind 5: names one behind the other, each a length byte and its bytes
+#![tactic(auto)]
+
 ghost use Rattle.std.specs.Prelude.{◌≡◌, not, ◌&&◌, ◌+◌, ◌<◌, ◌≤◌, eqb, ltb, length};
 ghost use Rattle.exact.specs.Table.{table};
 ghost use Rattle.verdict.specs.Answer.{answer_of};
@@ -19,7 +21,7 @@ use tree::Tree;
 use verdict::{Place, Reason, Refusal, Verdict};
 
 // Where each record of a sheet of the form starts, then where the last one ends, then zeros.
-#[derive(Drop)]
+#[derive(Clone, Copy)]
 pub struct Layout {
     pub verdict: Verdict,
     pub starts: [usize; Layout::MAX_STARTS],
@@ -51,7 +53,7 @@ impl Layout {
 }
 
 // Names one behind the other: how many there are, and where the last one ends.
-#[derive(Drop)]
+#[derive(Clone, Copy)]
 pub struct Walk {
     pub count: usize,
     pub end: usize,

@@ -1,4 +1,6 @@
 // One test as an answer: refused for a reason, at no place, where it applies. `verdict::or_else` puts tests in order.
+#![tactic(auto)]
+
 ghost use Rattle.std.specs.Prelude.{◌≡◌};
 ghost use Rattle.verdict.specs.Answer.{answer_of, reason_number, test};
 

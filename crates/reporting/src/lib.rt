@@ -1,5 +1,7 @@
 // The report of a fit, over lent slices: its numbers, and its rounded lengths in a lent buffer. A refusal reports nothing
 // and leaves the buffer as it was.
+#![tactic(auto)]
+
 ghost use Rattle.std.specs.Prelude.{◌≡◌, length};
 ghost use Rattle.fit_theory.specs.Stands.{Posted, Stands};
 ghost use Rattle.reporting.specs.Answers.{Reported, Silent, ProposalReport, ReportAnswer};
@@ -9,7 +11,7 @@ use verdict::{Place, Reason, Refusal, Rule, Verdict};
 
 // The numbers of an accepted fit; of a refused one the verdict, and zeros. The tree length is length / denominator, the
 // sum of squares f / denominator, the mean square f over what mean says.
-#[derive(Drop)]
+#[derive(Clone, Copy)]
 pub struct FitReport {
     pub verdict: Verdict,
     pub strains: u32,

@@ -1,5 +1,7 @@
 // A sheet of bytes, judged and reported: its records are read once, and what they hold is lent to the verdict and to the
 // report. Any bytes whatever get an answer.
+#![tactic(auto)]
+
 ghost use Rattle.std.specs.Prelude.{◌≡◌};
 ghost use Rattle.verdict.specs.Answer.{answer_of, number};
 ghost use Rattle.reading.specs.Tests.{sheet_tests};
@@ -11,7 +13,7 @@ use verdict::{Refusal, Rule, Verdict};
 
 // The report on a sheet, with its numerators and its rounded lengths, each followed by zeros; of a refusal the verdict,
 // and zeros.
-#[derive(Drop)]
+#[derive(Clone, Copy)]
 pub struct SheetFit {
     pub report: FitReport,
     pub numerators: [i64; Tree::MAX_EDGES],
@@ -90,7 +92,7 @@ pub fn sheet_report(rule: Rule, s: &[u8]) -> SheetFit
     }
 }
 
-// The number that a sheet gets by a rule. The entries for C share it: a number goes back in a register, so the tables of the sheet
+// The number that a sheet gets by a rule. The two verdicts share it: a number goes back in a register, so the tables of the sheet
 // are judged where they were read, which a verdict handed back in memory would prevent.
 fn sheet_number(rule: Rule, s: &[u8]) -> u32
     ensures { result ≡ number (sheet_tests rule s.now) }
@@ -98,17 +100,15 @@ fn sheet_number(rule: Rule, s: &[u8]) -> u32
     verdict::number(sheet_judge(rule, s))
 }
 
-// The number that a sheet gets, for a program in C: 0 where it is accepted.
-#[unsafe(no_mangle)]
-pub extern "C" fn sheet_verdict(s: &[u8]) -> u32
+// The number that a sheet gets, 0 where it is accepted. The crate sheet_c exports both verdicts to C.
+pub fn sheet_verdict(s: &[u8]) -> u32
     ensures { result ≡ number (sheet_tests Rule.Plain s.now) }
 {
     sheet_number(Rule::Plain, s)
 }
 
 // The same where no length may be negative.
-#[unsafe(no_mangle)]
-pub extern "C" fn sheet_verdict0(s: &[u8]) -> u32
+pub fn sheet_verdict0(s: &[u8]) -> u32
     ensures { result ≡ number (sheet_tests Rule.Drawable s.now) }
 {
     sheet_number(Rule::Drawable, s)

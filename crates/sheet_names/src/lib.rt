@@ -1,4 +1,6 @@
 // The names of a sheet with names: whether a sheet is one, and where its names begin, once they are of the form and no two alike.
+#![tactic(auto)]
+
 ghost use Rattle.std.specs.Prelude.{◌≡◌};
 ghost use Rattle.sheet_names.specs.Labels.{has_names, Labelled};
 

@@ -1,6 +1,8 @@
 // Reads sheets from standard input, each led by its length in four bytes, little-endian, and writes a line for each before it reads the
 // next: `best` and the number of the shortest tree so far, or `refused`, the number and the place. Input that ends within a length or
 // within a sheet gets `refused 2` as its last line. Where reading or writing fails nothing more is read.
+#![tactic(auto)]
+
 ghost use Rattle.std.specs.Prelude.{◌≡◌, min, ◌+◌, ◌^◌, ◌≤◌, ◌<◌, length};
 ghost use Rattle.lines.specs.Page.{widest};
 ghost use Rattle.records.specs.Form.{max_sheet};
@@ -26,14 +28,14 @@ fn blank() -> [u8; LINE]
 }
 
 // The run behind a sheet, and whether another is to be read.
-#[derive(Drop)]
+#[derive(Clone, Copy)]
 struct Next {
     run: Run,
     on: bool,
 }
 
 // What came of the bytes that were due: all of them, fewer because the input ended, or reading failed, which was said.
-#[derive(Drop)]
+#[derive(Clone, Copy)]
 enum Came {
     Whole,
     Cut,
@@ -53,7 +55,7 @@ fn what_came(taken: Taken, due: usize) -> Came
 }
 
 // What stands before a sheet: the end of the run, a length that is cut, or a length.
-#[derive(Drop)]
+#[derive(Clone, Copy)]
 enum Lead {
     End,
     Broken,
@@ -85,18 +87,18 @@ fn over(run: Run) -> Next
 }
 
 // The run is over, since the input ended within a length or within a sheet, which is said.
-fn cut(run: Run) -> Next
+fn cut(rt: &(impl Print + Eprint), run: Run) -> Next
     requires { Held run }
     ensures { Goes run result }
 {
     let mut text = blank();
     let end = shortest_lines::cut_line(&mut text);
-    streams::put_out(end, &text);
+    streams::put_out(rt, end, &text);
     over(run)
 }
 
 // A whole sheet: its line goes out before anything more is read.
-fn answered(run: Run, sheet: &[u8]) -> Next
+fn answered(rt: &(impl Print + Eprint), run: Run, sheet: &[u8]) -> Next
     requires held { Held run }
     requires count_bound { run.count + 1 < 2 ^ 64 }
     ensures { Goes run result }
@@ -104,32 +106,32 @@ fn answered(run: Run, sheet: &[u8]) -> Next
     let mut text = blank();
     let turn = shortest_run::turn(run, sheet, &mut text);
     let next = turn.run;
-    let on = streams::put_out(turn.end, &text);
+    let on = streams::put_out(rt, turn.end, &text);
     Next { run: next, on }
 }
 
 // A sheet of as many bytes as there is space for.
-fn sheet_in(run: Run, space: &mut [u8]) -> Next
+fn sheet_in(rt: &(impl Input + Print + Eprint), run: Run, space: &mut [u8]) -> Next
     requires held { Held run }
     requires count_bound { run.count + 1 < 2 ^ 64 }
     ensures { Goes run result }
 {
-    let taken = streams::take_in(space);
+    let taken = streams::take_in(rt, space);
     match what_came(taken, space.len()) {
-        Came::Whole => answered(run, space),
-        Came::Cut => cut(run),
+        Came::Whole => answered(rt, run, space),
+        Came::Cut => cut(rt, run),
         Came::Failed => over(run),
     }
 }
 
 // A sheet of so many bytes, no more than a sheet may have.
-fn short_sheet(run: Run, size: usize) -> Next
+fn short_sheet(rt: &(impl Input + Print + Eprint), run: Run, size: usize) -> Next
     requires held { Held run }
     requires count_bound { (run.count + 1 < 2 ^ 64) × (size ≤ max_sheet) }
     ensures { Goes run result }
 {
     let mut space = streams::room();
-    sheet_in(run, &mut space[..size])
+    sheet_in(rt, run, &mut space[..size])
 }
 
 // The lesser of two counts.
@@ -143,20 +145,20 @@ fn least(a: usize, b: usize) -> usize
 }
 
 // Reads so many bytes, no more than a sheet may have, and keeps none of them.
-fn piece_passed(size: usize) -> Came
+fn piece_passed(rt: &(impl Input + Eprint), size: usize) -> Came
     requires { size ≤ max_sheet }
 {
     let mut space = streams::room();
-    let taken = streams::take_in(&mut space[..size]);
+    let taken = streams::take_in(rt, &mut space[..size]);
     what_came(taken, size)
 }
 
 // The same of any number of bytes, piece by piece.
-fn passed_by(size: usize) -> Came {
+fn passed_by(rt: &(impl Input + Eprint), size: usize) -> Came {
     let mut left = size;
     while 0 < left {
         let piece = least(left, Layout::MAX_SHEET);
-        match piece_passed(piece) {
+        match piece_passed(rt, piece) {
             Came::Whole => {
                 left -= piece;
             }
@@ -173,53 +175,53 @@ fn passed_by(size: usize) -> Came {
 
 // A sheet of so many bytes, more than a sheet may have. All such sheets are answered alike, whatever their bytes: this one is answered
 // by zeros, one more than a sheet may have.
-fn long_sheet(run: Run, size: usize) -> Next
+fn long_sheet(rt: &(impl Input + Print + Eprint), run: Run, size: usize) -> Next
     requires held { Held run }
     requires count_bound { run.count + 1 < 2 ^ 64 }
     ensures { Goes run result }
 {
-    match passed_by(size) {
+    match passed_by(rt, size) {
         Came::Whole => {
             let space = streams::room();
-            answered(run, &space)
+            answered(rt, run, &space)
         }
-        Came::Cut => cut(run),
+        Came::Cut => cut(rt, run),
         Came::Failed => over(run),
     }
 }
 
 // A sheet of so many bytes.
-fn sized_sheet(run: Run, size: usize) -> Next
+fn sized_sheet(rt: &(impl Input + Print + Eprint), run: Run, size: usize) -> Next
     requires held { Held run }
     requires count_bound { run.count + 1 < 2 ^ 64 }
     ensures { Goes run result }
 {
     if size > Layout::MAX_SHEET {
-        return long_sheet(run, size);
+        return long_sheet(rt, run, size);
     }
-    short_sheet(run, size)
+    short_sheet(rt, run, size)
 }
 
 // The next sheet of standard input, with its length before it, or the end.
-fn next_sheet(run: Run) -> Next
+fn next_sheet(rt: &(impl Input + Print + Eprint), run: Run) -> Next
     requires held { Held run }
     requires count_bound { run.count + 1 < 2 ^ 64 }
     ensures { Goes run result }
 {
     let mut lead = [0; LEAD];
-    let taken = streams::take_in(&mut lead);
+    let taken = streams::take_in(rt, &mut lead);
     match lead_of(taken, &lead) {
         Lead::End => over(run),
-        Lead::Broken => cut(run),
-        Lead::Length(size) => sized_sheet(run, size),
+        Lead::Broken => cut(rt, run),
+        Lead::Length(size) => sized_sheet(rt, run, size),
     }
 }
 
 // Sheet after sheet. Each takes a number below 2^64, and a run of so many sheets ends there.
-fn main() {
+fn main(rt: HostRuntime) {
     let mut run = shortest_run::start();
     while run.count < u64::MAX {
-        let next = next_sheet(run);
+        let next = next_sheet(&rt, run);
         if !next.on {
             return;
         }

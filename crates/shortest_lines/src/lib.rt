@@ -1,4 +1,6 @@
 // The lines of a run of sheets, written to the front of a lent buffer: `best` and a number, or the line of a refusal.
+#![tactic(auto)]
+
 ghost use Rattle.std.specs.Prelude.{[], ◌∷◌, ◌≤◌, pos, length};
 ghost use Rattle.verdict.specs.Answer.{answer_of};
 ghost use Rattle.verdict.specs.declared.Place.TheVariants.{Nowhere};

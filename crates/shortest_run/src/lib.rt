@@ -1,5 +1,7 @@
 // A run of sheets (RULES, Which of two trees is shorter): what is kept between two sheets, by value, one sheet of the run, and the line
 // that it gets. `Keeps`, in specs/Kept.antt, says which state of the definitions a value is.
+#![tactic(auto)]
+
 ghost use Rattle.std.specs.Prelude.{◌≡◌, true, false, ◌+◌, ◌^◌, ◌≤◌, ◌<◌, length};
 ghost use Rattle.exact.specs.Table.{table};
 ghost use Rattle.lines.specs.Page.{widest};
@@ -13,7 +15,7 @@ use verdict::{Rule, Verdict};
 
 // How many sheets have come, and the winner among them where one was found: its number, its length, and its bytes with zeros behind;
 // zeros where none was.
-#[derive(Drop)]
+#[derive(Clone, Copy)]
 pub struct Run {
     pub count: u64,
     pub found: bool,
@@ -23,14 +25,14 @@ pub struct Run {
 }
 
 // The answer to a sheet, and the run behind it.
-#[derive(Drop)]
+#[derive(Clone, Copy)]
 pub struct Stepped {
     pub verdict: Verdict,
     pub run: Run,
 }
 
 // The run behind a sheet, and where the sheet's line ends in the text.
-#[derive(Drop)]
+#[derive(Clone, Copy)]
 pub struct Answered {
     pub run: Run,
     pub end: usize,

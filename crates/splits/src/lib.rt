@@ -1,5 +1,7 @@
 // For each edge of an allowed tree what a table has for the pairs that the edge parts, added up. No pair is missing: every number
 // of the table is added as it stands. The steps are those of Bryant and Waddell (1998); the equation numbers at the steps are theirs.
+#![tactic(auto)]
+
 ghost use Rattle.std.specs.Prelude.{◌≡◌, ℕ, ◌+◌, ◌<◌, ◌≤◌, true, length, pos, slice_index, unsigned_abs};
 ghost use Rattle.exact.specs.Table.{table, entry_of};
 ghost use Rattle.matrix.specs.Limits.{max_strains, max_distance};

@@ -1,5 +1,7 @@
 // Tables over lent slices: the split sum of each edge, and the path of each pair. Both answer for any input; a refusal
 // leaves the lent buffer as it was.
+#![tactic(auto)]
+
 ghost use Rattle.std.specs.Prelude.{◌≡◌, ℕ, ◌≤◌, ◌<◌, length};
 ghost use Rattle.exact.specs.Table.{table, entry_of};
 ghost use Rattle.exact.specs.LeastSquares.{path};

@@ -1,5 +1,7 @@
 // The strain tree: the parent of each vertex, and the tests of such a table. Vertices 0 to n-1 are the strains, the others are inner, and the last is the root. Edge v joins v
 // to its parent, so there are as many edges as entries in the table.
+#![tactic(auto)]
+
 ghost use Rattle.std.specs.Prelude.{◌≡◌, ◌||◌, ℕ, ◌+◌, ◌≤◌, ◌<◌, ltb, pos, length, get_or};
 ghost use Rattle.exact.specs.Table.{table};
 ghost use Rattle.verdict.specs.Answer.{answer_of};
@@ -14,7 +16,7 @@ use matrix::Matrix;
 use verdict::{Place, Reason, Refusal, Verdict};
 
 // An allowed tree of n strains: its parents, then zeros.
-#[derive(Drop)]
+#[derive(Clone, Copy)]
 pub struct Tree {
     pub n: usize,
     pub edges: usize,
@@ -22,7 +24,7 @@ pub struct Tree {
 }
 
 // What a table of parents gets: the answer, and the tree where it is accepted.
-#[derive(Drop)]
+#[derive(Clone, Copy)]
 pub struct Planted {
     pub verdict: Verdict,
     pub tree: Tree,
@@ -217,7 +219,7 @@ impl Tree {
 }
 
 // The limits as the code has them; the contract says that the definitions have the same.
-#[derive(Drop)]
+#[derive(Clone, Copy)]
 pub struct Limits {
     pub edges: usize,
     pub vertices: usize,

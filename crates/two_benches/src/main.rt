@@ -1,5 +1,7 @@
 // Reads calls on a desk from standard input, one a line, and answers each before it reads on: `ok`, the report, the pairs, `refused`, the
 // number and the place, or `refused line` (RULES, The desk's lines). Where reading or writing fails nothing more is read.
+#![tactic(auto)]
+
 ghost use Rattle.std.specs.Prelude.{◌≡◌, ◌+◌, ◌≤◌, ◌<◌, length};
 ghost use Rattle.pair_lines.specs.Lines.{pairs_page};
 ghost use Rattle.desk_text.specs.Meaning.{max_line, max_words};
@@ -47,7 +49,7 @@ fn page() -> [u8; PAGE]
 }
 
 // The desk after a line, and whether its answer went out.
-#[derive(Drop)]
+#[derive(Clone, Copy)]
 struct Turned {
     desk: Desk,
     written: bool,
@@ -55,6 +57,7 @@ struct Turned {
 
 // One line: its answer goes out before anything more is read.
 fn turn(
+    rt: &(impl Print + Eprint),
     desk: Desk,
     line: &[u8],
     numbers: &mut [u16],
@@ -69,7 +72,7 @@ fn turn(
 {
     let told = desk_turn::tell(desk, line, numbers, distances, parents, numerators, page);
     let next = told.desk;
-    let written = streams::put_out(told.length, page);
+    let written = streams::put_out(rt, told.length, page);
     Turned {
         desk: next,
         written,
@@ -78,7 +81,7 @@ fn turn(
 
 // Where the lines of a buffer leave off: the desk, the first byte that is not answered, whether a line began before the buffer's first
 // byte, and whether every answer went out.
-#[derive(Drop)]
+#[derive(Clone, Copy)]
 struct Left {
     desk: Desk,
     at: usize,
@@ -88,6 +91,7 @@ struct Left {
 
 // The line from one place to another, or a line that began before the buffer.
 fn one(
+    rt: &(impl Print + Eprint),
     desk: Desk,
     long: bool,
     space: &[u8],
@@ -104,9 +108,12 @@ fn one(
     ensures { Held result.desk }
 {
     if long {
-        return turn(desk, space, numbers, distances, parents, numerators, page);
+        return turn(
+            rt, desk, space, numbers, distances, parents, numerators, page,
+        );
     }
     turn(
+        rt,
         desk,
         &space[from..to],
         numbers,
@@ -119,7 +126,14 @@ fn one(
 
 // Every line of the buffer's first `count` bytes whose end has come. A line that began before the buffer is too long, whatever it holds:
 // it is answered as any line too long is, by the whole buffer. The page is lent, for it is large and need not be blank.
-fn lines(desk: Desk, began: bool, space: &[u8], count: usize, page: &mut [u8]) -> Left
+fn lines(
+    rt: &(impl Print + Eprint),
+    desk: Desk,
+    began: bool,
+    space: &[u8],
+    count: usize,
+    page: &mut [u8],
+) -> Left
     requires held { Held desk }
     requires count_in_bounds { (count ≤ length space.now) × (pairs_page ≤ length page.old) }
     ensures { Held result.desk × (result.at ≤ count) }
@@ -143,6 +157,7 @@ fn lines(desk: Desk, began: bool, space: &[u8], count: usize, page: &mut [u8]) -
         }
         let end = found.end;
         let turned = one(
+            rt,
             now,
             long,
             space,
@@ -176,7 +191,14 @@ fn lines(desk: Desk, began: bool, space: &[u8], count: usize, page: &mut [u8]) -
 }
 
 // The last line, which has no end: all that is left of the buffer.
-fn last_line(desk: Desk, long: bool, space: &[u8], count: usize, page: &mut [u8])
+fn last_line(
+    rt: &(impl Print + Eprint),
+    desk: Desk,
+    long: bool,
+    space: &[u8],
+    count: usize,
+    page: &mut [u8],
+)
     requires held { Held desk }
     requires count_in_bounds { (count ≤ length space.now) × (pairs_page ≤ length page.old) }
 {
@@ -185,6 +207,7 @@ fn last_line(desk: Desk, long: bool, space: &[u8], count: usize, page: &mut [u8]
     let mut parents = no_bytes();
     let mut numerators = no_numerators();
     one(
+        rt,
         desk,
         long,
         space,
@@ -200,7 +223,7 @@ fn last_line(desk: Desk, long: bool, space: &[u8], count: usize, page: &mut [u8]
 
 // How reading goes on: the bytes of a line that has no end yet stand at the front of the buffer, or the line is too long and they are
 // let go.
-#[derive(Drop)]
+#[derive(Clone, Copy)]
 struct Rest {
     count: usize,
     long: bool,
@@ -219,7 +242,7 @@ fn kept(count: usize, long: bool) -> Rest
     Rest { count, long }
 }
 
-fn main() {
+fn main(rt: HostRuntime) {
     let mut desk = desk::empty();
     let mut space = room();
     let mut page = page();
@@ -228,9 +251,9 @@ fn main() {
     let mut reads = 0u64;
     while reads < 18_446_744_073_709_551_615 {
         reads += 1;
-        match streams::take_more(&mut space, count) {
+        match streams::take_more(&rt, &mut space, count) {
             Reading::On(next) => {
-                let left = lines(desk, long, &space, next, &mut page);
+                let left = lines(&rt, desk, long, &space, next, &mut page);
                 if !left.written {
                     return;
                 }
@@ -243,7 +266,7 @@ fn main() {
             }
             Reading::Over(taken) => {
                 if taken.whole {
-                    last_line(desk, long, &space, count, &mut page);
+                    last_line(&rt, desk, long, &space, count, &mut page);
                 }
                 return;
             }

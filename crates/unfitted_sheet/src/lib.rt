@@ -1,5 +1,7 @@
 // A sheet without lengths, fitted: its two records are read once, and what they hold is lent to the direct fit. Any
 // bytes whatever get an answer.
+#![tactic(auto)]
+
 ghost use Rattle.std.specs.Prelude.{◌≡◌};
 ghost use Rattle.exact.specs.Table.{table};
 ghost use Rattle.tree_theory.specs.Limits.{max_edges};
@@ -11,7 +13,7 @@ use verdict::{Refusal, Verdict};
 
 // The direct fit of a sheet: N, K, and for each edge the numerator and the denominator of its length and its rounding
 // to thousandths, each followed by zeros; of a refusal the verdict, and zeros.
-#[derive(Drop)]
+#[derive(Clone, Copy)]
 pub struct UnfittedFit {
     pub fit: DirectFit,
     pub strains: u32,

@@ -1,10 +1,12 @@
 // The answer that every test of a sheet, a table or a buffer gives. `answer_of`, in specs/Answer.antt, says which
 // number and place of RULES, Numbers of refusal, each case stands for; contracts speak of answers through it.
+#![tactic(auto)]
+
 ghost use Rattle.std.specs.Prelude.{◌≡◌};
 ghost use Rattle.verdict.specs.Answer.{number_of, reason_number, answer_of, ◌or_else◌};
 
 // Why something is refused: a case for each number of RULES, Numbers of refusal, in the order of the numbers.
-#[derive(Drop)]
+#[derive(Clone, Copy)]
 pub enum Reason {
     SheetTooLong,
     RecordCut,
@@ -38,7 +40,7 @@ pub enum Reason {
 }
 
 // Where the fault is: the lowest byte, vertex or edge at fault, an edge with its sum, or no place of its own.
-#[derive(Drop)]
+#[derive(Clone, Copy)]
 pub enum Place {
     Nowhere,
     Byte(usize),
@@ -47,7 +49,7 @@ pub enum Place {
     EdgeSum(usize, i64),
 }
 
-#[derive(Drop)]
+#[derive(Clone, Copy)]
 pub struct Refusal {
     pub reason: Reason,
     pub place: Place,
@@ -55,13 +57,13 @@ pub struct Refusal {
 
 // The rule of a verdict: which lengths may be proposed, and so with which tables a fit is compared. All, or, for those
 // who draw the tree, only such without a negative length.
-#[derive(Drop)]
+#[derive(Clone, Copy)]
 pub enum Rule {
     Plain,
     Drawable,
 }
 
-#[derive(Drop)]
+#[derive(Clone, Copy)]
 pub enum Verdict {
     Accepted,
     Refused(Refusal),

@@ -1,5 +1,7 @@
 // Writing plain text into a lent buffer: words, decimals, decimals with a sign. Each function writes at a
 // place, returns the next, and changes no other byte.
+#![tactic(auto)]
+
 ghost use Rattle.std.specs.Prelude.{◌≡◌, [], ◌∷◌, ◌+◌, ◌≤◌, ◌<◌, length};
 ghost use Rattle.writing.specs.Text.{decimal, signed, Wrote};
 

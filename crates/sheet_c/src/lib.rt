@@ -1,0 +1,24 @@
+// A sheet's verdict, for programs in C: each function is the library's of the same name.
+#![tactic(auto)]
+
+ghost use Rattle.std.specs.Prelude.{◌≡◌};
+ghost use Rattle.verdict.specs.Answer.{number};
+ghost use Rattle.reading.specs.Tests.{sheet_tests};
+
+use verdict::Rule;
+
+// The number that a sheet gets, 0 where it is accepted.
+#[unsafe(no_mangle)]
+pub extern "C" fn sheet_verdict(s: &[u8]) -> u32
+    ensures { result ≡ number (sheet_tests Rule.Plain s.now) }
+{
+    sheet::sheet_verdict(s)
+}
+
+// The same where no length may be negative.
+#[unsafe(no_mangle)]
+pub extern "C" fn sheet_verdict0(s: &[u8]) -> u32
+    ensures { result ≡ number (sheet_tests Rule.Drawable s.now) }
+{
+    sheet::sheet_verdict0(s)
+}
