@@ -192,7 +192,7 @@ roundings =
 abbrev pub x_of : ℕ → List ℕ → List ℕ → ℕ → List ℤ → ℤ
 x_of N ds ps Q xs = sum_x (pairs N) (length ps) (parts_in ds ps) (distance ds) (pos Q) (entry_of xs)
 
--- A's own lengths: Q²·D·F is D²-as-X
+-- A's own lengths: Q²·D·F is D²·X
 abbrev pub least_there : Bool
 least_there = le_z (pos (2 * 2 * 2) *ℤ f_of 4 distances_a parents_a 2 numerators_a) (pos (2 * 2) *ℤ x_of 4 distances_a parents_a 2 numerators_a)
 
@@ -210,7 +210,7 @@ thousand_a = table 5 (λ v. pos 1000 *ℤ entry_of numerators_a v)
 abbrev pub millions_there : Bool
 millions_there = le_z (pos (4 * (2 * 2)) *ℤ r_of 4 thousandfold parents_a 2 thousand_a) (pos 4000000 *ℤ x_of 4 thousandfold parents_a 2 thousand_a +ℤ pos (2 * 2) *ℤ h_of 4 thousandfold parents_a)
 
--- the star of four strains, whose lengths are not whole thousandths: without Q²-as-H the rounding would not be close
+-- the star of four strains, whose lengths are not whole thousandths: without Q²·H the rounding would not be close
 abbrev pub star_numerators : List ℤ
 star_numerators = pos 2 ∷ pos 2 ∷ negsuc 0 ∷ negsuc 0 ∷ []
 

@@ -73,6 +73,6 @@ scaled D' ns v = pos D' *ℤ entry_of ns v
 pub record OneFit (rule : Rule) (N : ℕ) (ds ps : List ℕ) (D : ℕ) (ns : List ℤ) : Type 0 where
   -- on one matrix and one tree, two fits (D, n) and (D', n') have D'·n = D·n' at every edge
   pub agree : (D' : ℕ) (ns' : List ℤ) → Fitted rule N ds ps D' ns' → (v : ℕ) → v < length ps → scaled D' ns v ≡ scaled D ns' v
-  -- every table x over Q that is compared with and differs from the fit as fractions at some edge has a strictly larger sum of squares: Q²·D·F is less than D²-as-X
+  -- every table x over Q that is compared with and differs from the fit as fractions at some edge has a strictly larger sum of squares: Q²·D·F is less than D²·X
   pub strict : (Q : ℤ) (x : ℕ → ℤ) → Against rule (length ps) Q x → (v : ℕ) → v < length ps → (Q *ℤ entry_of ns v ≡ pos D *ℤ x v → ⊥)
       → Q *ℤ Q *ℤ pos D *ℤ f_of N ds ps D ns <ᶻ pos D *ℤ pos D *ℤ sum_x (pairs N) (length ps) (parts_in ds ps) (distance ds) Q x

@@ -1,5 +1,5 @@
 -- The print of a sheet with names: the text of its fitted tree and a line end, or the line of its refusal.
-use Rattle.std.specs.Prelude.{List, [], ◌∷◌, ◌++◌, ℕ, ◌+◌}
+use Rattle.std.specs.Prelude.{List, ◌++◌, ℕ, ◌+◌}
 use Rattle.lines.specs.Lines.{end}
 use Rattle.answer_lines.specs.Texts.{by_answer}
 use Rattle.newick_text.specs.Tree.{max_text}

@@ -1,6 +1,6 @@
 -- Trees and tables. From a table of parents the tree of a vertex, with children in rising number; from a tree its tables, with inner
 -- vertices numbered as their brackets close.
-use Rattle.std.specs.Prelude.{Bool, true, false, List, ℕ, zero, suc, ◌+◌, eqb, ltb, get_or, set}
+use Rattle.std.specs.Prelude.{Bool, true, false, List, ℕ, zero, suc, eqb, ltb, get_or, set}
 use Rattle.newick_text.specs.Tree.{Tree, leaf, node, Row, none, some}
 
 -- ---- from a table p of parents, where the vertices below n are leaves, `name` says their names and `long` the lengths

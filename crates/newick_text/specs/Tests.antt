@@ -1,5 +1,5 @@
 -- What a text is asked beside N names (RULES, Trees in text), where `find` gives the number of a name, N or above where it is unknown.
-use Rattle.std.specs.Prelude.{◌≡◌, Bool, not, ◌||◌, List, ℕ, eqb, leb, ℤ, pos, length}
+use Rattle.std.specs.Prelude.{Bool, not, ◌||◌, List, ℕ, eqb, leb, ℤ, pos}
 use Rattle.exact.specs.Table.{table}
 use Rattle.verdict.specs.Answer.{Answer, test, ◌or_else◌}
 use Rattle.verdict.specs.Table.{some}

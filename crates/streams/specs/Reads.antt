@@ -1,8 +1,17 @@
 -- How reading goes by the numbers that the reads gave, one after the other.
-use Rattle.std.specs.Prelude.{◌≡◌, true, false, List, [], ◌∷◌, ℕ, zero, suc, min, ◌+◌, ◌-◌, ◌<◌, ℤ, pos, negsuc}
+use Rattle.std.specs.Prelude.{◌≡◌, true, false, List, [], ◌∷◌, ℕ, zero, suc, min, ◌+◌, ◌-◌, ◌≤◌, ◌<◌, ℤ, pos, negsuc, length, take, Result, Ok, Err}
 use Rattle.streams.specs.declared.Taken.{Taken}
 use Rattle.streams.specs.declared.Reading.{Reading}
 use Rattle.streams.specs.declared.Reading.TheVariants.{On, Over}
+
+-- so many bytes are a front of a text, and that front has so many
+abbrev pub IsPrefixLen : ℕ → List ℕ → Type 0
+IsPrefixLen n xs = (n ≤ length xs) × (n ≡ length (take n xs))
+
+-- the number that a read gave: how many bytes, or one below zero where it failed
+abbrev pub number_of : {E : Type 0} → Result ℕ E → ℤ
+number_of (Ok n) = pos n
+number_of (Err e) = negsuc 0
 
 -- behind one read: below zero it failed, zero is the end of the input, and of any other number so many bytes came as there was room for
 abbrev pub read_of : ℕ → ℤ → ℕ → Reading
