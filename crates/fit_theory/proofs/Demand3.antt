@@ -36,7 +36,7 @@ use Rattle.fit_theory.proofs.Ranges.{distance-near, mul_abs, path_abs, hops-swee
 between : (b : ℕ) (z : ℤ) → pos 0 ≤ᶻ z → z ≤ᶻ pos b → nat_abs z ≤ b
 between b z low high = within→abs b z (record { low = ≤_trans (le-by (nn-pos b) (by-ring (pos b ∷ []) (search quote depth 20) tt)) low; high = high })
 
--- F ≤ D-as-X, from the comparison with lengths of 0
+-- F ≤ D·X, from the comparison with lengths of 0
 cancel_D : (D F X : ℤ) → pos 0 <ᶻ D → pos 1 *ℤ pos 1 *ℤ D *ℤ F ≤ᶻ D *ℤ D *ℤ X → F ≤ᶻ D *ℤ X
 cancel_D D F X h k = *-cancel h (le-by (nn_sub k) (by-ring (D ∷ F ∷ X ∷ []) (search quote depth 20) tt))
 
@@ -118,7 +118,7 @@ module _ (rule : Rule) (N : ℕ) (ds ps : List ℕ) (D : ℕ) (ns : List ℤ) (s
   X : ℤ
   X = sum_x (pairs N) (length ps) (parts_in ds ps) (distance ds) (pos 1) (λ _. pos 0)
 
-  -- D-as-F is a sum of squares
+  -- D·F is a sum of squares
   low : pos 0 ≤ᶻ f_of N ds ps D ns
   low = *-cancel some-D (subst₂ ◌≤ᶻ◌ (sym (*ℤ-zero (pos D))) (sym is-minimum.squares) (S-sq (pairs-sums N) (remainder (length ps) (parts_in ds ps) (distance ds) (pos D) (entry_of ns))))
 
