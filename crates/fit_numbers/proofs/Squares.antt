@@ -47,7 +47,7 @@ module _ (n : ℕ) (r : ℕ × ℕ → ℤ) (fits : Fits63 (pairs n (square_of r
         (≤_trans (sweep-le n (square_of r) (λ p _ _. nn-sq (r p)) j (suc i) strain rising) fits.high),
   )
 
-  -- off is the remainder as the code reads it, s the bits of the running sum
+  -- off is the remainder as the code reads it, s the running sum
   module _ (off : ℤ) (e : off ≡ r (i, j)) where
     off_small : nat_abs (off *ℤ off) < 2 ^ 63
     off_small = omega (arith, ap (λ z. nat_abs (sq z)) e, square-small)
@@ -55,19 +55,19 @@ module _ (n : ℕ) (r : ℕ × ℕ → ℤ) (fits : Fits63 (pairs n (square_of r
     pub square-fits : SFits w64 (off *ℤ off)
     square-fits = fits_abs (off *ℤ off) off_small
 
-    module _ (s : ℕ) (g : to_z w64 s ≡ sweep (square_of r) j i) where
-      more : to_z w64 s +ℤ to_z w64 (of_z w64 (off *ℤ off)) ≡ sweep (square_of r) j (suc i)
+    module _ (s : ℤ) (g : s ≡ sweep (square_of r) j i) where
+      more : s +ℤ to_z w64 (of_z w64 (off *ℤ off)) ≡ sweep (square_of r) j (suc i)
       more = ap₂ ◌+ℤ◌ g (back (off *ℤ off) off_small ∙ ap sq e) ∙ sym (sweep-step (square_of r) j i)
 
-      near : nat_abs (to_z w64 s +ℤ to_z w64 (of_z w64 (off *ℤ off))) < 2 ^ 63
+      near : nat_abs (s +ℤ to_z w64 (of_z w64 (off *ℤ off))) < 2 ^ 63
       near = omega (arith, ap nat_abs more, sum-small)
 
-      pub squares-fit : SFits w64 (to_z w64 s +ℤ to_z w64 (of_z w64 (off *ℤ off)))
-      squares-fit = fits_abs (to_z w64 s +ℤ to_z w64 (of_z w64 (off *ℤ off))) near
+      pub squares-fit : SFits w64 (s +ℤ to_z w64 (of_z w64 (off *ℤ off)))
+      squares-fit = fits_abs (s +ℤ to_z w64 (of_z w64 (off *ℤ off))) near
 
       pub squares-next : (p : Pair) → Follows i j p
-          → to_z w64 (of_z w64 (to_z w64 s +ℤ to_z w64 (of_z w64 (off *ℤ off)))) ≡ sweep (square_of r) p.j p.i
-      squares-next p k = back (to_z w64 s +ℤ to_z w64 (of_z w64 (off *ℤ off))) near ∙ more ∙ sweep-step (square_of r) j i ∙ sym (k.adds (square_of r))
+          → to_z w64 (of_z w64 (s +ℤ to_z w64 (of_z w64 (off *ℤ off)))) ≡ sweep (square_of r) p.j p.i
+      squares-next p k = back (s +ℤ to_z w64 (of_z w64 (off *ℤ off))) near ∙ more ∙ sweep-step (square_of r) j i ∙ sym (k.adds (square_of r))
 
 -- ---- H is small
 pub h_fits : (K : ℕ) → K ≤ max_edges → (parts : ℕ → ℕ × ℕ → Bool) (N : ℕ) → N ≤ max_strains → Fits63 (sum_h (pairs N) K parts)

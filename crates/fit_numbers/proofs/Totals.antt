@@ -17,20 +17,20 @@ use Rattle.tree_theory.specs.Limits.{max_edges}
 use Rattle.lengths.specs.Limits.{max_numerator}
 use Rattle.pairs.specs.Ready.{InRange}
 
-module _ {K : ℕ} {ns : List ℤ} (w : InRange K ns) (few : K ≤ max_edges) (v s : ℕ) (l : v < K) (e : to_z w64 s ≡ sum v (entry_of ns)) where
+module _ {K : ℕ} {ns : List ℤ} (w : InRange K ns) (few : K ≤ max_edges) (v : ℕ) (s : ℤ) (l : v < K) (e : s ≡ sum v (entry_of ns)) where
   -- the entry comes back from its bits
-  more : to_z w64 s +ℤ to_z w64 (of_z w64 (entry_of ns v)) ≡ sum (v + 1) (entry_of ns)
+  more : s +ℤ to_z w64 (of_z w64 (entry_of ns v)) ≡ sum (v + 1) (entry_of ns)
   more = ap₂ ◌+ℤ◌ e (back (entry_of ns v) (omega (arith, w.near v l))) ∙ sym (sum-suc v (entry_of ns)) ∙ ap (λ k. sum k (entry_of ns)) (sym (add-one v))
 
-  near : nat_abs (to_z w64 s +ℤ to_z w64 (of_z w64 (entry_of ns v))) < 2 ^ 63
+  near : nat_abs (s +ℤ to_z w64 (of_z w64 (entry_of ns v))) < 2 ^ 63
   near = omega (
     arith,
     ap nat_abs more,
     sum_abs (v + 1) max_numerator (entry_of ns) (λ k h. w.near k (omega arith)),
   )
 
-  pub total-fits : SFits w64 (to_z w64 s +ℤ to_z w64 (of_z w64 (entry_of ns v)))
-  total-fits = fits_abs (to_z w64 s +ℤ to_z w64 (of_z w64 (entry_of ns v))) near
+  pub total-fits : SFits w64 (s +ℤ to_z w64 (of_z w64 (entry_of ns v)))
+  total-fits = fits_abs (s +ℤ to_z w64 (of_z w64 (entry_of ns v))) near
 
-  pub total-next : to_z w64 (of_z w64 (to_z w64 s +ℤ to_z w64 (of_z w64 (entry_of ns v)))) ≡ sum (v + 1) (entry_of ns)
-  total-next = back (to_z w64 s +ℤ to_z w64 (of_z w64 (entry_of ns v))) near ∙ more
+  pub total-next : to_z w64 (of_z w64 (s +ℤ to_z w64 (of_z w64 (entry_of ns v)))) ≡ sum (v + 1) (entry_of ns)
+  total-next = back (s +ℤ to_z w64 (of_z w64 (entry_of ns v))) near ∙ more

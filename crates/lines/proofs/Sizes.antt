@@ -1,5 +1,5 @@
 -- A signed number has at most 21 bytes, so each field has at most 22, a line of at most four at most 97, and the whole print is far below a page.
-use mathlib.Core.List.{List, [], ◌∷◌, ◌++◌}
+use mathlib.Core.List.{List, [], ◌∷◌}
 use Prim.Native.Nat.{ℕ, zero, suc, ◌+◌, ◌*◌, ◌<◌, ◌≤◌}
 use native.Mathlib.Numerals.{add-one}
 use native.Mathlib.Omega.{arith}
@@ -12,10 +12,10 @@ use Rattle.verdict.specs.declared.Rule.TheVariants.{Plain, Drawable}
 use Rattle.mean.specs.declared.Mean.{Mean}
 use Rattle.mean.specs.declared.Mean.TheVariants.{None, Over}
 use Rattle.tree_theory.specs.Limits.{max_edges}
-use Rattle.writing.specs.Text.{signed, Wrote}
+use Rattle.writing.specs.Text.{Wrote}
 use Rattle.writing.proofs.Writing.{wrote_then}
 use Rattle.writing.proofs.Decimals.{signed-length}
-use Rattle.lines.specs.Lines.{end, fields, line, edge_word, edge_lines, place_fields, refused_line, fit_word, length_word, square_word, mean_line, resolved_word, fit_text, resolved_text, fields_by, fit_text_by, edge_lines_by}
+use Rattle.lines.specs.Lines.{fields, line, edge_word, edge_lines, place_fields, refused_line, fit_word, mean_line, fit_text, resolved_text, fields_by, fit_text_by, edge_lines_by}
 use Rattle.lines.specs.Page.{page_size, widest}
 
 pub fields-length : (zs : List ℤ) → length (fields zs) ≤ 22 * length zs

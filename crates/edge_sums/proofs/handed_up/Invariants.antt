@@ -1,0 +1,10 @@
+-- `handed_up`: one vertex a turn, which has all that is below it.
+use Prim.Native.Nat.{◌-◌}
+use Rattle.edge_sums.proofs.HandingUp.{SharesAt}
+use Rattle.edge_sums.proofs.handed_up.Given as goal
+
+abbrev pub invariant-loop-v : goal.invariant-loop-v
+invariant-loop-v l = SharesAt l.edges l.parents l.initial.own l.v l.own l.sums
+
+abbrev pub decreases-loop-v : goal.decreases-loop-v
+decreases-loop-v l = l.edges - l.v

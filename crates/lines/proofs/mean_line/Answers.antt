@@ -1,0 +1,12 @@
+-- Each case is a line.
+use borrow.Author.Rules.{rules}
+use mir.Facts.{to_z-of_z}
+use mir.Syntax.{w64}
+use Rattle.lines.proofs.Pieces.{wrote-mean}
+use Rattle.lines.proofs.mean_line.Goals as goal
+
+pub returns-in-None : goal.returns-in-None
+returns-in-None c = wrote-mean _ _ c.in-None.is c.line.ensures
+
+pub returns-in-Over : goal.returns-in-Over
+returns-in-Over c = wrote-mean _ _ c.in-Over.is (simp (to_z-of_z {w = w64} {z = c.in-Over.divisor} (search rules), to_z-of_z {w = w64} {z = c.args.f} (search rules)) at c.line-in-Over.ensures)
