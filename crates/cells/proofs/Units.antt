@@ -1,7 +1,7 @@
 -- The units of a decimal, and what a cell is judged by. What is read is cut at 10^15, far above 5.0000, so cutting changes no judgement
 -- (`cut-seen`).
 use mathlib.Core.Path.{◌≡◌, refl, sym, ◌∙◌, ap, ap₂}
-use mathlib.Core.Bool.{Bool, true, false, cond, ◌||◌, true≢false}
+use mathlib.Core.Bool.{Bool, true, false, cond, ◌||◌}
 use mathlib.Core.List.{List}
 use mathlib.Core.Logic.{◌≢◌}
 use Prim.Native.Nat.{ℕ, suc, ◌+◌, ◌-◌, ◌*◌, ◌≤◌, ◌<◌}
@@ -17,17 +17,6 @@ use Rattle.digits.specs.Digits.{run, is_digit, digit_of, most, at_most, number_f
 use Rattle.digits.proofs.Reading.{both_true, inside, low-cut, high_cut, cut_again, slice_is}
 use Rattle.cells.specs.Cell.{whole, pointed, part, places, is_missing, decimal_size, cell_size, units_of, units_out, decimal_out, decimal_entry, cell_out, cell_entry}
 use Rattle.cells.specs.declared.Cell.{Cell}
-
--- ---- judged
-pub out_first : (a b : Bool) (u : ℕ) → a ≡ true → (true ≡ (a || b)) × (0 ≡ cond (a || b) 0 u)
-out_first true b u e = (refl, refl)
-out_first false b u e = absurd (true≢false (sym e))
-
-pub out-second : (a b : Bool) (u : ℕ) → a ≡ false → b ≡ true → (true ≡ (a || b)) × (0 ≡ cond (a || b) 0 u)
-out-second a b u e f = (rw (e, f), rw (e, f))
-
-pub out_none : (a b : Bool) (u : ℕ) → a ≡ false → b ≡ false → (false ≡ (a || b)) × (u ≡ cond (a || b) 0 u)
-out_none a b u e f = (rw (e, f), rw (e, f))
 
 -- ---- scaled
 pub scale-turn : (k all next n : ℕ) → k < 4 → next ≡ at_most (all * 10 + digit_of 48) → at_most (number_from all (replicate (4 - k) 48)) ≡ n → at_most (number_from next (replicate (4 - (k + 1)) 48)) ≡ n

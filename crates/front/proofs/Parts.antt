@@ -9,7 +9,6 @@ use Rattle.exact.specs.Table.{table, padded}
 use Rattle.exact.proofs.Fill.{length-table}
 use Rattle.verdict.specs.Answer.{pass}
 use Rattle.matrix.specs.Limits.{max_pairs}
-use Rattle.matrix.specs.Place.{pair_count}
 use Rattle.matrix.proofs.Places.{pairs-few}
 use Rattle.fit_theory.specs.Stands.{Shaped}
 use Rattle.records.specs.Form.{start_of, records_tests}

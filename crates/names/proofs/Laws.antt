@@ -5,13 +5,12 @@
 use mathlib.Core.Path.{◌≡◌, refl, sym, ap, ◌∙◌}
 use mathlib.Core.Bool.{Bool, true, false, cond, not, ◌&&◌, true≢false}
 use mathlib.Core.List.{List, [], ◌∷◌}
-use Prim.Native.Nat.{ℕ, zero, suc, ◌+◌, ◌<◌, ◌≤◌}
+use Prim.Native.Nat.{ℕ, zero, suc, ◌<◌, ◌≤◌}
 use native.Mathlib.Decide.{dec_lt}
 use native.Mathlib.Omega.{arith}
 use borrow.Author.Tests.{lt-ltb, le-ltb, leb-true, eqb-true, not-false}
 use lib.Dec.{eqb, ltb, leb}
-use lib.ListN.{length, get_or, drop, length-drop}
-use lib.Seq.{length-take-le}
+use lib.ListN.{length, get_or}
 use Rattle.exact.proofs.Decide.{by_cases}
 use Rattle.verdict.specs.Answer.{pass, test, test_at, ◌or_else◌}
 use Rattle.verdict.specs.declared.Place.TheVariants.{Byte}

@@ -1,16 +1,16 @@
 -- The text that is written has a row; that row passes every test of a text; and the tree of its tables is the tree that was written.
-use mathlib.Core.Path.{◌≡◌, refl, sym, ◌∙◌, ap, ap₂}
-use mathlib.Core.Bool.{Bool, true, false, not, ◌||◌}
+use mathlib.Core.Path.{◌≡◌, refl, sym, ◌∙◌, ap}
+use mathlib.Core.Bool.{true, false, not}
 use mathlib.Core.List.{List, [], ◌∷◌}
-use Prim.Native.Nat.{ℕ, ◌+◌, ◌*◌, ◌^◌, ◌<◌, ◌≤◌}
+use Prim.Native.Nat.{ℕ, ◌^◌, ◌<◌, ◌≤◌}
 use native.Mathlib.Omega.{arith}
 use borrow.Author.Tests.{eq-eqb, le-ltb}
 use lib.Dec.{eqb}
-use lib.IntN.{ℤ, pos, nat_abs}
+use lib.IntN.{ℤ, nat_abs}
 use lib.ListN.{length}
 use Rattle.exact.specs.Table.{table, entry_of}
 use Rattle.exact.proofs.Fill.{length-table}
-use Rattle.verdict.specs.Answer.{Answer, pass, fault, test, ◌or_else◌}
+use Rattle.verdict.specs.Answer.{Answer, pass, test, ◌or_else◌}
 use Rattle.verdict.proofs.Answers.{or_else_pass, pass_or_else, pass-test, none_or}
 use Rattle.matrix.specs.Limits.{min_strains, max_strains}
 use Rattle.tree_theory.specs.Chain.{parent_of}
@@ -23,11 +23,10 @@ use Rattle.lengths.proofs.Checked.{→proper}
 use Rattle.records.specs.Form.{head_size}
 use Rattle.records.specs.Names.{max_name}
 use Rattle.names.specs.Name.{is_name}
-use Rattle.names.specs.Record.{name_of, place_of, record_count, names_tests}
+use Rattle.names.specs.Record.{name_of, record_count, names_tests}
 use Rattle.names.proofs.Laws.{name-long, names-formed, place-of, place-has, lent-formed}
-use Rattle.newick_text.specs.Length.{length_text, is_length, value_of}
-use Rattle.newick_text.specs.Tree.{Row, node, Text, text_of, max_text, size_of, row_tally, tally}
-use Rattle.newick_text.specs.Table.{children_of}
+use Rattle.newick_text.specs.Length.{length_text, value_of}
+use Rattle.newick_text.specs.Tree.{Row, node, Text, text_of, max_text, size_of, tally}
 use Rattle.newick_text.specs.Tests.{thousand, edges_in, parents_in, numerators_in, names_wrong, row_tests, room_out}
 use Rattle.newick_text.proofs.Filling.{filled-length}
 use Rattle.newick_text.proofs.Texts.{row-size}
@@ -41,7 +40,7 @@ use Rattle.newick_put.specs.Put.{widest_length}
 use Rattle.newick_put.proofs.Putting.{length-widest}
 use Rattle.newick_survey.specs.Text.{find_in, head_tests, Answered, by_names, by_form, by_row}
 use Rattle.newick_read.specs.Answers.{read_tests, Reads}
-use Rattle.newick_write.specs.Answers.{root_of, tree_text, write_tests}
+use Rattle.newick_write.specs.Answers.{root_of, write_tests}
 use Rattle.newick_round.specs.Round.{written_text, Back}
 
 module _ (names ps : List ℕ) (ms : List ℤ) (room : ℕ) (passed : write_tests names ps ms room ≡ pass) where

@@ -1,25 +1,23 @@
 -- The names record of a sheet, lent by itself: it passes, it has the names of the sheet, and so the text that is written of a fitted sheet is the text
 -- of that record, the tree and the thousandths.
 use mathlib.Core.Path.{◌≡◌, refl, sym, ◌∙◌, ap, ap₂}
-use mathlib.Core.Bool.{Bool, true, false, not, ◌||◌}
+use mathlib.Core.Bool.{Bool, false, not, ◌||◌}
 use mathlib.Core.List.{List}
-use Prim.Native.Nat.{ℕ, zero, suc, ◌+◌, ◌-◌, ◌*◌, ◌<◌, ◌≤◌}
+use Prim.Native.Nat.{ℕ, zero, suc, ◌+◌, ◌*◌, ◌<◌, ◌≤◌}
 use native.Mathlib.Omega.{arith}
 use borrow.Author.Tests.{eq-eqb, le-ltb}
-use lib.Dec.{eqb, ltb}
-use lib.IntN.{ℤ, nat_abs}
+use lib.IntN.{nat_abs}
 use lib.ListN.{length, get_or, take, drop, length-drop}
 use lib.Seq.{get_or-drop, drop-drop}
-use Rattle.exact.specs.Table.{table, entry_of}
+use Rattle.exact.specs.Table.{entry_of}
 use Rattle.exact.proofs.Fill.{length-table}
-use Rattle.verdict.specs.Answer.{Answer, pass, test, test_at, ◌or_else◌}
+use Rattle.verdict.specs.Answer.{pass, test, ◌or_else◌}
 use Rattle.verdict.specs.declared.Place.TheVariants.{Byte}
-use Rattle.verdict.specs.Table.{some}
 use Rattle.verdict.proofs.Answers.{or_else_pass, pass_or_else, pass-test, pass-test_at}
 use Rattle.verdict.proofs.Table.{some_cong}
 use Rattle.endian.specs.Bytes.{number}
-use Rattle.records.specs.Names.{name_start, name_count}
-use Rattle.records.specs.Form.{head_size, names_kind, body_at, size_at, kind_at, end_at, start_of, head_cut, body_cut, names_at, body_out, record_tests, form_tests}
+use Rattle.records.specs.Names.{name_start}
+use Rattle.records.specs.Form.{head_size, names_kind, body_at, kind_at, end_at, start_of, names_at, record_tests, form_tests}
 use Rattle.records.proofs.Names.{name-first, name-next, count-ends}
 use Rattle.records.proofs.InTurn.{next_start}
 use Rattle.records.proofs.Formed.{form-ends, kind-due, names-many, names-end}

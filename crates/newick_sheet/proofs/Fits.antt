@@ -1,5 +1,5 @@
 -- What the first three records hold, judged by the plain rule; the lengths of what passes, rounded.
-use mathlib.Core.Path.{◌≡◌, refl, sym, ◌∙◌, ap, ap₂}
+use mathlib.Core.Path.{◌≡◌, sym, ◌∙◌, ap, ap₂}
 use mathlib.Core.Bool.{cond}
 use mathlib.Core.List.{List}
 use Prim.Native.Nat.{ℕ, ◌-◌, ◌≤◌, ◌<◌}
@@ -12,7 +12,7 @@ use lib.Seq.{length-take-le, get_or-take}
 use Rattle.exact.specs.Nearest.{nearest}
 use Rattle.exact.specs.Table.{table, entry_of}
 use Rattle.exact.proofs.Fill.{length-table, get_or_table, table_is}
-use Rattle.verdict.specs.Answer.{Answer, pass, answer_of, refusal_of, ◌or_else◌}
+use Rattle.verdict.specs.Answer.{pass, answer_of, refusal_of, ◌or_else◌}
 use Rattle.verdict.specs.declared.Rule.TheVariants.{Plain}
 use Rattle.verdict.specs.declared.Verdict.{Verdict}
 use Rattle.verdict.specs.declared.Verdict.TheVariants.{Accepted, Refused}
@@ -27,13 +27,13 @@ use Rattle.fit_theory.specs.Quantities.{rounded_of}
 use Rattle.fit_theory.specs.Tests.{proposal_tests, sums_tests}
 use Rattle.records.specs.Form.{form_tests}
 use Rattle.reading.specs.declared.Sheet.{Sheet}
-use Rattle.reading.specs.Holds.{strains_of, distances_of, parents_of, denominator_of, numerators_of}
+use Rattle.reading.specs.Holds.{strains_of, parents_of, denominator_of, numerators_of}
 use Rattle.reading.specs.Reads.{SheetAnswer}
-use Rattle.reading.specs.Tests.{read_tests, held_tests}
+use Rattle.reading.specs.Tests.{held_tests}
 use Rattle.reading.proofs.Parts.{Parts, Lengths, accepted, of-lengths}
 use Rattle.reading.proofs.Whole.{held-asked, held-refused}
 use Rattle.newick_sheet.specs.declared.Fitting.{Fitting}
-use Rattle.newick_sheet.specs.Named.{thousandths_of, Fitted, FittingAnswer}
+use Rattle.newick_sheet.specs.Named.{thousandths_of, FittingAnswer}
 
 -- a refusal
 pub answer-refused : (s : List ℕ) (q : Refusal) (x : Fitting) → x.verdict ≡ Refused q → refusal_of q ≡ held_tests Plain s → FittingAnswer s x

@@ -1,34 +1,32 @@
 -- The writer of a sheet with names, by what was found on the way.
-use mathlib.Core.Path.{◌≡◌, refl, sym, ◌∙◌, ap, ap₂}
-use mathlib.Core.Bool.{Bool, true, false, not}
+use mathlib.Core.Path.{◌≡◌, refl, sym, ◌∙◌, ap}
+use mathlib.Core.Bool.{Bool, not}
 use mathlib.Core.List.{List}
-use Prim.Native.Nat.{ℕ, ◌-◌, ◌≤◌}
+use Prim.Native.Nat.{ℕ, ◌-◌}
 use native.Mathlib.Omega.{arith}
 use borrow.Author.Tests.{eq-eqb, ne_eqb}
-use lib.Dec.{eqb}
 use lib.ListN.{length, take, drop}
 use Rattle.exact.proofs.Fill.{length-table}
-use Rattle.verdict.specs.Answer.{Answer, pass, fault, answer_of, refusal_of, test, ◌or_else◌}
+use Rattle.verdict.specs.Answer.{Answer, pass, answer_of, refusal_of, test, ◌or_else◌}
 use Rattle.verdict.specs.declared.Reason.TheVariants.{Buffer}
 use Rattle.verdict.specs.declared.Place.TheVariants.{Nowhere}
 use Rattle.verdict.specs.declared.Rule.TheVariants.{Plain}
-use Rattle.verdict.specs.declared.Verdict.{Verdict}
 use Rattle.verdict.specs.declared.Verdict.TheVariants.{Accepted, Refused}
 use Rattle.verdict.specs.declared.Refusal.{Refusal}
 use Rattle.verdict.proofs.Answers.{not_pass}
 use Rattle.fit_theory.specs.Quantities.{rounded_of}
 use Rattle.writing.specs.Text.{Wrote}
 use Rattle.records.specs.Form.{form_tests}
-use Rattle.reading.specs.Holds.{strains_of, parents_of, denominator_of, numerators_of}
+use Rattle.reading.specs.Holds.{parents_of, denominator_of, numerators_of}
 use Rattle.reading.specs.Tests.{held_tests}
 use Rattle.names.specs.declared.Named.{Named}
 use Rattle.newick_text.specs.Tree.{max_text}
 use Rattle.newick_write.specs.declared.Written.{Written}
 use Rattle.newick_write.specs.Answers.{tree_text, Tellable, room_out, Told}
-use Rattle.newick_write.proofs.Telling.{told-refused, told-passed}
+use Rattle.newick_write.proofs.Telling.{told-passed}
 use Rattle.newick_sheet.specs.declared.Fitting.{Fitting}
-use Rattle.sheet_names.specs.Labels.{names_from, label_tests, named_tests, Labelled}
-use Rattle.newick_sheet.specs.Named.{sheet_text_tests, thousandths_of, named_text, Fitted, FittingAnswer}
+use Rattle.sheet_names.specs.Labels.{label_tests, Labelled}
+use Rattle.newick_sheet.specs.Named.{sheet_text_tests, named_text, Fitted, FittingAnswer}
 use Rattle.sheet_names.proofs.Labels.{label_form, label_within}
 
 module _ (s before : List ℕ) (x : Named) (a : Labelled s x) where

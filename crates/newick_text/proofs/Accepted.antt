@@ -5,7 +5,6 @@ use mathlib.Core.Bool.{Bool, true, false, cond, not}
 use mathlib.Core.List.{List}
 use Prim.Native.Nat.{ℕ, zero, suc, ◌+◌, ◌<◌, ◌≤◌}
 use native.Mathlib.Decide.{dec_lt, ℕ_discrete}
-use native.Mathlib.Nat.{le_refl}
 use native.Mathlib.Omega.{arith}
 use borrow.Author.Tests.{eq-eqb, ne_eqb, lt-leb}
 use lib.Dec.{eqb, leb}
@@ -25,17 +24,17 @@ use Rattle.lengths.specs.Limits.{max_numerator}
 use Rattle.lengths.specs.Proper.{Proper}
 use Rattle.lengths.proofs.Checked.{proper→}
 use Rattle.newick_text.specs.Length.{value_of, length_text}
-use Rattle.newick_text.specs.Tree.{Tree, leaf, node, Row, none, some, leaves_with}
+use Rattle.newick_text.specs.Tree.{Tree, node, Row, none, some, leaves_with}
 use Rattle.newick_text.specs.Table.{pick_row, row_from, tree_of, children_of}
 use Rattle.newick_text.specs.Tests.{thousand, edges_in, parents_in, numerators_in, names_wrong, row_tests}
 use Rattle.newick_text.proofs.Filling.{filled-length}
 use Rattle.newick_text.proofs.Lookup.{Found, missing, below, entry_in, look, filled-look}
 use Rattle.newick_text.proofs.Trees.{leaf-is, node-is}
 use Rattle.newick_text.proofs.Totals.{add_from, add, add_none, add-more}
-use Rattle.newick_text.proofs.Planted.{tree-uses, tree-known, root-number}
-use Rattle.newick_text.proofs.Back.{Brackets, RowBrackets, Bracket}
+use Rattle.newick_text.proofs.Planted.{tree-uses, tree-known}
+use Rattle.newick_text.proofs.Back.{Brackets, RowBrackets}
 use Rattle.newick_text.proofs.Risen.{parent_up}
-use Rattle.newick_text.proofs.Round.{Plain, Each, Holds, look-each, table-each, edges-again, row_read, bracket_read}
+use Rattle.newick_text.proofs.Round.{Plain, Holds, look-each, table-each, edges-again, row_read, bracket_read}
 
 -- ---- how many vertices a bracket has
 unfoldable pub row_length : Row → ℕ

@@ -16,11 +16,11 @@ use Rattle.names.specs.Name.{is_name}
 use Rattle.tree_theory.specs.Chain.{parent_of, kid}
 use Rattle.tree_theory.specs.Allowed.{Allowed, children}
 use Rattle.newick_text.specs.Length.{is_length}
-use Rattle.newick_text.specs.Tree.{Tree, leaf, node, Row, none, some, Some, tally, row_tally, size_of, brackets_of, leaves_with, Formed, RowFormed, max_open}
-use Rattle.newick_text.specs.Table.{pick_row, row_from, tree_of, children_of, after, row_after}
+use Rattle.newick_text.specs.Tree.{Tree, node, Row, none, some, Some, tally, size_of, brackets_of, leaves_with, Formed, RowFormed, max_open}
+use Rattle.newick_text.specs.Table.{pick_row, row_from, tree_of, children_of, row_after}
 use Rattle.newick_text.proofs.Counting.{rows-number}
 use Rattle.newick_text.proofs.Trees.{leaf-is, node-is}
-use Rattle.newick_text.proofs.Totals.{add, add_none, add-more, add_same, add_most, total}
+use Rattle.newick_text.proofs.Totals.{add, add_none, add-more, add_most, total}
 
 -- ---- sums of ones
 module _ (f : ℕ → ℕ) where

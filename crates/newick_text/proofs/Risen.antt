@@ -1,24 +1,22 @@
 -- A tree that is read has parents that are greater than their children, inner vertices, and at most the root: 9 and 16 are given for no text.
-use mathlib.Core.Path.{◌≡◌, refl, sym, ◌∙◌, ap, ap₂}
-use mathlib.Core.Bool.{Bool, true, false, cond, ◌||◌}
+use mathlib.Core.Path.{◌≡◌, refl, ◌∙◌}
+use mathlib.Core.Bool.{Bool, true, false, cond}
 use mathlib.Core.List.{List}
-use mathlib.Core.Logic.{◌⊎◌, inl, inr, ⊎_elim}
-use Prim.Native.Nat.{ℕ, suc, ◌+◌, ◌<◌, ◌≤◌}
+use mathlib.Core.Logic.{inl, inr, ⊎_elim}
+use Prim.Native.Nat.{ℕ, suc, ◌<◌, ◌≤◌}
 use native.Mathlib.Nat.{le_refl}
 use native.Mathlib.Omega.{arith}
-use borrow.Author.Tests.{eqb-true, le-ltb, lt-leb, leb-false, ltb-false, not-false}
-use lib.Dec.{eqb, leb, ltb}
+use borrow.Author.Tests.{eqb-true, le-ltb, lt-leb, leb-false}
+use lib.Dec.{eqb, leb}
 use lib.ListN.{get_or, length}
 use Rattle.exact.specs.Table.{table}
-use Rattle.exact.proofs.Fill.{length-table, get_or_table_const}
-use Rattle.verdict.specs.Table.{some}
-use Rattle.verdict.specs.Answer.{Answer, pass, at_first}
+use Rattle.exact.proofs.Fill.{length-table}
 use Rattle.tree_theory.specs.Chain.{parent_of}
-use Rattle.tree_theory.specs.Tests.{parent_out, parent_fault}
+use Rattle.tree_theory.specs.Tests.{parent_out}
 use Rattle.newick_text.specs.Tree.{Tree, leaf, node, Row, none, tally, row_tally, leaves_with}
 use Rattle.newick_text.specs.Table.{after, row_after, number_of}
 use Rattle.newick_text.specs.Tests.{edges_in, parents_in}
-use Rattle.newick_text.proofs.Lookup.{Found, missing, below, first, where_same, There, bracket_in, entry_in, look, row_look, after-up, row_up, filled-look}
+use Rattle.newick_text.proofs.Lookup.{Found, missing, below, first, where_same, There, entry_in, look, row_look, after-up, row_up, filled-look}
 use Rattle.newick_text.proofs.Filling.{filled-length}
 use Rattle.newick_text.proofs.Once.{uses, uses-look, lt_or}
 

@@ -1,6 +1,6 @@
 -- There and back (RULES, Trees in text): the tree of an allowed table, read back into tables, is the same tree with the same thousandths, so
 -- it is written as the same text.
-use mathlib.Core.Path.{◌≡◌, refl, sym, ◌∙◌, ap}
+use mathlib.Core.Path.{◌≡◌, refl, ◌∙◌, ap}
 use mathlib.Core.Bool.{Bool, true, false}
 use mathlib.Core.List.{List}
 use mathlib.Core.Logic.{◌⊎◌, inl, inr, ⊎_elim}
@@ -9,7 +9,7 @@ use native.Mathlib.Nat.{le_refl}
 use native.Mathlib.Omega.{arith}
 use lib.Dec.{eqb}
 use lib.IntN.{ℤ, pos}
-use lib.ListN.{length, get_or}
+use lib.ListN.{get_or}
 use Rattle.exact.specs.Table.{table, entry_of}
 use Rattle.exact.proofs.Fill.{length-table, get_or_table_const}
 use Rattle.tree_theory.specs.Chain.{parent_of}
@@ -17,7 +17,7 @@ use Rattle.tree_theory.specs.Allowed.{Allowed}
 use Rattle.newick_text.specs.Length.{value_of, length_text}
 use borrow.Author.Tests.{ne_eqb}
 use Rattle.newick_text.specs.Tree.{Tree, leaf, node, Row, none, some, tally}
-use Rattle.newick_text.specs.Table.{pick_row, row_from, tree_of, children_of, after, row_after, number_of, filled}
+use Rattle.newick_text.specs.Table.{pick_row, row_from, tree_of, children_of, after, row_after, number_of}
 use Rattle.newick_text.specs.Tests.{edges_in, parents_in, numerators_in}
 use Rattle.newick_text.proofs.Trees.{leaf-is, node-is}
 use Rattle.newick_text.proofs.Lookup.{Found, missing, below, first, where_same, bracket_in, entry_in, look, row_look, row_up, filled-look}

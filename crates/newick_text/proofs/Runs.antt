@@ -2,11 +2,11 @@
 use mathlib.Core.Path.{◌≡◌, refl, sym, ◌∙◌, ap}
 use mathlib.Core.Bool.{Bool, true, false, cond}
 use mathlib.Core.List.{List, [], ◌∷◌, ◌++◌}
-use Prim.Native.Nat.{ℕ, suc, ◌+◌, ◌≤◌}
+use Prim.Native.Nat.{ℕ, suc, ◌+◌, ◌*◌, ◌≤◌}
 use native.Mathlib.Omega.{arith}
 use lib.ListN.{length, get_or, take, drop, take-append-drop}
 use lib.Seq.{take_at, drop_at}
-use Rattle.digits.specs.Digits.{run, number_from}
+use Rattle.digits.specs.Digits.{run, number_from, digit_of}
 
 module _ (p : ℕ → Bool) where
   -- no byte of the kind stands at the front
@@ -55,4 +55,4 @@ append-same a b c d h e = (
 pub number_append : (a : ℕ) (l m : List ℕ) → number_from a (l ++ m) ≡ number_from (number_from a l) m
 unfolding number_from
 number_append a [] m = refl
-number_append a (x ∷ xs) m = number_append _ xs m
+number_append a (x ∷ xs) m = number_append (a * 10 + digit_of x) xs m

@@ -1,11 +1,9 @@
 -- Sheet A's tree in text, worked through by the definitions: `((a:1.500,b:1.500):3.500,c:1.500,d:3.500);` has this row, these tables, and
 -- passes beside four names.
 use mathlib.Core.Path.{◌≡◌, refl}
-use mathlib.Core.Bool.{cond}
 use mathlib.Core.List.{List, [], ◌∷◌}
 use Prim.Native.Nat.{ℕ, ◌-◌}
 use native.Mathlib.Omega.{arith}
-use lib.Dec.{eqb}
 use lib.IntN.{pos}
 use lib.ListN.{get_or}
 use Rattle.exact.specs.Table.{table_from}

@@ -1,10 +1,10 @@
 -- A text has as many bytes as `size_of` says, and what stands behind it may be cut in two.
 use mathlib.Core.Path.{◌≡◌, refl, sym, ◌∙◌, ap}
-use mathlib.Core.List.{List, [], ◌∷◌, ◌++◌, append_assoc}
-use Prim.Native.Nat.{ℕ, suc, ◌+◌}
+use mathlib.Core.List.{List, ◌∷◌, ◌++◌, append_assoc}
+use Prim.Native.Nat.{ℕ, ◌+◌}
 use native.Mathlib.Omega.{arith}
 use lib.ListN.{length, length-append}
-use Rattle.newick_text.specs.Tree.{Tree, leaf, node, Row, none, some, text_then, row_then, tally, row_tally, size_of, row_size}
+use Rattle.newick_text.specs.Tree.{Tree, leaf, node, Row, none, some, text_then, row_then, tally, size_of, row_size}
 
 mutual
   unfolding text_then tally

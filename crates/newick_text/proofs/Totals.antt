@@ -4,17 +4,16 @@
 use mathlib.Core.Path.{◌≡◌, refl, sym, ◌∙◌, ap, ap₂}
 use mathlib.Core.Bool.{Bool, true, false, cond}
 use mathlib.Core.List.{List}
-use Prim.Native.Nat.{ℕ, zero, suc, ◌+◌, ◌-◌, ◌*◌, ◌<◌, ◌≤◌}
+use Prim.Native.Nat.{ℕ, zero, suc, ◌+◌, ◌*◌, ◌<◌, ◌≤◌}
 use native.Mathlib.Decide.{dec_lt, ℕ_discrete}
-use native.Mathlib.Numerals.{add-one}
 use native.Mathlib.Omega.{arith}
-use borrow.Author.Tests.{lt-ltb, le-ltb, le-leb, eq-eqb, ne_eqb, leb-true, lt-leb}
+use borrow.Author.Tests.{lt-ltb, le-ltb, le-leb, eq-eqb, ne_eqb, lt-leb}
 use lib.Dec.{eqb, ltb, leb}
 use lib.ListN.{get_or}
 use Rattle.exact.proofs.Decide.{by_cases}
 use Rattle.tree_theory.specs.Chain.{parent_of}
 use Rattle.tree_theory.specs.Allowed.{Allowed}
-use Rattle.newick_text.specs.Tree.{Tree, leaf, node, Row, none, some, tally, row_tally}
+use Rattle.newick_text.specs.Tree.{Tree, some, tally, row_tally}
 use Rattle.newick_text.specs.Table.{pick_row, row_from, tree_of, children_of}
 use Rattle.newick_text.proofs.Trees.{leaf-is, node-is}
 

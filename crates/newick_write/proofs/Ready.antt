@@ -1,8 +1,8 @@
 -- What may be told has names within its bytes, and a text far shorter than the buffer; and the tree by the table of the names' starts is the
 -- tree by the names themselves.
-use mathlib.Core.Path.{◌≡◌, refl, sym, ◌∙◌, ap}
+use mathlib.Core.Path.{◌≡◌, refl, ◌∙◌, ap}
 use mathlib.Core.List.{List}
-use Prim.Native.Nat.{ℕ, suc, ◌+◌, ◌*◌, ◌<◌, ◌≤◌}
+use Prim.Native.Nat.{ℕ, suc, ◌+◌, ◌<◌, ◌≤◌}
 use native.Mathlib.Decide.{ℕ_discrete}
 use native.Mathlib.Omega.{arith}
 use lib.IntN.{ℤ}
@@ -20,11 +20,10 @@ use Rattle.names.specs.Record.{name_of}
 use Rattle.names.proofs.Laws.{name-long, names-formed}
 use Rattle.writing.specs.Text.{Wrote}
 use Rattle.newick_text.specs.Tree.{size_of, text_of}
-use Rattle.newick_text.specs.Length.{length_text}
 use Rattle.newick_text.proofs.Trees.{children_cong}
 use Rattle.newick_text.proofs.Planted.{tree-size}
 use Rattle.newick_put.specs.Put.{word_at, edge_text, Words, tree_at, children_at, widest_length}
-use Rattle.newick_put.proofs.Putting.{length-widest, word-length}
+use Rattle.newick_put.proofs.Putting.{length-widest}
 use Rattle.newick_write.specs.Answers.{root_of, tree_text, Tellable}
 
 module _ (s : List ℕ) (from n : ℕ) (ps : List ℕ) (ms : List ℤ) (buffer : List ℕ) (t : Tellable s from n ps ms buffer) where

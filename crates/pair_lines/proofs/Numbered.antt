@@ -5,7 +5,7 @@ use Prim.Native.Nat.{ℕ, ◌+◌, ◌-◌, ◌≤◌, ◌<◌}
 use native.Mathlib.Decide.{dec_lt}
 use native.Mathlib.Omega.{arith}
 use lib.IntN.{ℤ, pos}
-use lib.ListN.{length, get_or}
+use lib.ListN.{length}
 use Rattle.exact.proofs.Decide.{by_cases}
 use Rattle.verdict.specs.declared.Rule.TheVariants.{Plain}
 use Rattle.matrix.specs.Limits.{max_strains}
@@ -13,7 +13,6 @@ use Rattle.matrix.specs.Place.{measured, distance}
 use Rattle.fit_theory.specs.Quantities.{path_of, remainder_of}
 use Rattle.writing.specs.Text.{decimal, Wrote}
 use Rattle.lines.specs.Lines.{line, fit_word}
-use Rattle.pieces.specs.Pieces.{pieces}
 use Rattle.pieces.proofs.Pieces.{pieces_cong}
 use Rattle.records.specs.Names.{name_start}
 use Rattle.names.specs.Record.{name_of}

@@ -1,12 +1,11 @@
 -- The lines of a row and of all rows, one behind the other, and how long they are together.
-use mathlib.Core.Path.{◌≡◌, refl, sym, ap, ap₂, ◌∙◌}
-use mathlib.Core.Bool.{Bool, true, false, cond}
-use mathlib.Core.List.{List, [], ◌∷◌, ◌++◌}
+use mathlib.Core.Path.{◌≡◌, ap, ◌∙◌}
+use mathlib.Core.List.{List}
 use Prim.Native.Nat.{ℕ, zero, suc, ◌+◌, ◌-◌, ◌*◌, ◌≤◌, ◌<◌}
 use native.Mathlib.Decide.{dec_lt}
 use native.Mathlib.Omega.{arith}
 use lib.IntN.{ℤ, pos, nat_abs, ◌-ℤ◌, ◌*ℤ◌}
-use lib.ListN.{length, get_or, length-append}
+use lib.ListN.{length, get_or}
 use mir.Syntax.{w64}
 use mir.Val.{to_z, of_z}
 use Rattle.exact.specs.LeastSquares.{path}
@@ -18,13 +17,11 @@ use Rattle.matrix.proofs.Places.{row-place-bound}
 use Rattle.tree_theory.specs.Chain.{parent_of, parts_pair}
 use Rattle.inner_paths.specs.Between.{Lengthened}
 use Rattle.inner_paths.proofs.Reaching.{near}
-use Rattle.lines.specs.Lines.{end, fields}
-use Rattle.lines.proofs.Sizes.{fields-length}
 use Rattle.pieces.specs.Pieces.{pieces}
 use Rattle.pieces.proofs.Pieces.{pieces-grow}
 use Rattle.records.specs.Names.{max_name}
 use Rattle.newick_put.specs.Put.{word_at}
-use Rattle.pair_line.specs.Line.{dash, pair_head, pair_line, widest_pair, NameThere, farthest}
+use Rattle.pair_line.specs.Line.{pair_line, widest_pair, NameThere, farthest}
 use Rattle.pair_lines.specs.Lines.{line_by, row_by}
 use Rattle.pair_line.proofs.Lining.{name-length, line-long}
 

@@ -1,12 +1,12 @@
 -- What stands is printed: the tables that were lent are what the rows ask, and rows by tables are the rows of the definition.
 use mathlib.Core.Path.{◌≡◌, refl, sym, ap, ap₂, ◌∙◌, subst}
 use mathlib.Core.Bool.{Bool, true, false, cond}
-use mathlib.Core.List.{List, [], ◌∷◌, ◌++◌}
+use mathlib.Core.List.{List, [], ◌∷◌}
 use Prim.Native.Nat.{ℕ, ◌+◌, ◌-◌, ◌*◌, ◌≤◌, ◌<◌}
 use native.Mathlib.Omega.{arith}
 use lib.Dec.{ltb}
 use lib.IntN.{ℤ, pos, nat_abs, ◌-ℤ◌, ◌*ℤ◌}
-use lib.ListN.{length, get_or, take, drop}
+use lib.ListN.{length, get_or}
 use Rattle.exact.specs.Nearest.{nearest}
 use Rattle.exact.specs.Table.{table, padded, entry_of}
 use Rattle.exact.specs.LeastSquares.{path}
@@ -14,7 +14,7 @@ use Rattle.exact.proofs.Fill.{length-table}
 use Rattle.exact.proofs.LeastSquares.{path_cong}
 use Rattle.verdict.specs.declared.Rule.TheVariants.{Plain}
 use Rattle.matrix.specs.Limits.{max_strains}
-use Rattle.matrix.specs.Place.{place, measured, known, distance, pair_count}
+use Rattle.matrix.specs.Place.{place, measured, distance, pair_count}
 use Rattle.matrix.proofs.Looking.{known_of}
 use Rattle.matrix.proofs.Places.{pairs-few}
 use Rattle.tree_theory.specs.Limits.{max_edges}

@@ -1,18 +1,15 @@
 -- A refusal is written as its line; what passes stands, and its pairs are written.
-use mathlib.Core.Path.{◌≡◌, refl, sym, ◌∙◌, ap, subst}
-use mathlib.Core.Bool.{Bool, true, false, cond}
+use mathlib.Core.Path.{◌≡◌, sym, ◌∙◌, ap, subst}
 use mathlib.Core.List.{List}
-use Prim.Native.Nat.{ℕ, ◌-◌, ◌≤◌, ◌<◌}
-use native.Mathlib.Omega.{arith}
-use lib.IntN.{ℤ}
-use lib.ListN.{length, take, drop}
+use Prim.Native.Nat.{ℕ, ◌-◌, ◌<◌}
+use lib.ListN.{take, drop}
 use Rattle.verdict.specs.Answer.{Answer, pass, answer_of, refusal_of, number_of, ◌or_else◌}
 use Rattle.verdict.specs.declared.Verdict.{Verdict}
 use Rattle.verdict.specs.declared.Verdict.TheVariants.{Accepted, Refused}
 use Rattle.verdict.specs.declared.Refusal.{Refusal}
 use Rattle.verdict.specs.declared.Rule.TheVariants.{Plain}
 use Rattle.verdict.proofs.Answers.{not_pass}
-use Rattle.fit_theory.specs.Stands.{Posted, Stands}
+use Rattle.fit_theory.specs.Stands.{Stands}
 use Rattle.fit_theory.specs.Tests.{proposal_tests}
 use Rattle.fit_theory.proofs.Exactly.{proposal-stands}
 use Rattle.writing.specs.Text.{Wrote}

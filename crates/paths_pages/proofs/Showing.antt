@@ -2,12 +2,9 @@
 use mathlib.Core.Path.{◌≡◌, refl, sym, ◌∙◌, ap, ap₂, subst}
 use mathlib.Core.Bool.{Bool, true, false, cond}
 use mathlib.Core.List.{List}
-use Prim.Native.Nat.{ℕ, ◌≤◌, ◌<◌}
+use Prim.Native.Nat.{ℕ, ◌≤◌}
 use native.Mathlib.Omega.{arith}
-use lib.IntN.{pos}
-use lib.ListN.{length, get_or}
-use Rattle.exact.specs.Table.{entry_of}
-use Rattle.exact.specs.LeastSquares.{ClosePaths}
+use lib.ListN.{length}
 use Rattle.verdict.specs.Answer.{Answer, pass, fault, answer_of, refusal_of, number_of, test, ◌or_else◌}
 use Rattle.verdict.specs.declared.Verdict.TheVariants.{Accepted, Refused}
 use Rattle.verdict.specs.declared.Refusal.{Refusal}
@@ -15,7 +12,6 @@ use Rattle.verdict.specs.declared.Rule.TheVariants.{Plain}
 use Rattle.verdict.proofs.Answers.{or_else_pass}
 use Rattle.matrix.specs.Limits.{max_strains}
 use Rattle.matrix.specs.Tests.{matrix_tests}
-use Rattle.fit_theory.specs.Quantities.{parts_of, rounded_of}
 use Rattle.fit_theory.specs.Stands.{Stands}
 use Rattle.fit_theory.specs.Tests.{judge_tests}
 use Rattle.fit_theory.proofs.Exactly.{→stands}
@@ -25,7 +21,6 @@ use Rattle.writing.proofs.Writing.{wrote-within}
 use Rattle.lines.specs.Lines.{refused_line}
 use Rattle.answer_lines.specs.Texts.{by_answer}
 use Rattle.pages.specs.Texts.{ShownOn}
-use Rattle.records.specs.Names.{max_name, name_start}
 use Rattle.records.specs.Form.{form_tests}
 use Rattle.reading.specs.Holds.{strains_of, distances_of, parents_of, denominator_of, numerators_of}
 use Rattle.reading.specs.Tests.{strains_differ, read_tests, held_tests, sheet_tests}
@@ -33,13 +28,13 @@ use Rattle.reading.proofs.Parts.{shaped}
 use Rattle.names.specs.Record.{name_of}
 use Rattle.names.specs.declared.Named.{Named}
 use Rattle.names.proofs.Laws.{name-long, name-size, names-formed}
-use Rattle.sheet_names.specs.Labels.{is_pass, has_names, names_from, label_tests, named_tests, Labelled}
+use Rattle.sheet_names.specs.Labels.{has_names, names_from, label_tests, named_tests, Labelled}
 use Rattle.sheet_names.proofs.Labels.{label_form, label_within}
 use Rattle.labels.specs.Labels.{number_names}
 use Rattle.labels.proofs.Called.{number-name}
-use Rattle.pair_lines.specs.Lines.{pairs_text, pairs_page, NamesFrom}
+use Rattle.pair_lines.specs.Lines.{pairs_page, NamesFrom}
 use Rattle.pair_lines.proofs.Numbered.{numbers_from, text-alike}
-use Rattle.paths_pages.specs.Texts.{pairs_of_sheet, paths_text, paths_tests, PathsClose}
+use Rattle.paths_pages.specs.Texts.{pairs_of_sheet, paths_text, PathsClose}
 use Rattle.paths_pages.proofs.Printing.{refusal-written}
 
 -- ---- what passes

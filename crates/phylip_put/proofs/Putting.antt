@@ -1,11 +1,10 @@
 -- A text written piece by piece is the text written at once: each piece goes where the one before it ends, and there is room for all.
 use mathlib.Core.Path.{◌≡◌, sym, ◌∙◌, ap, subst}
 use mathlib.Core.Bool.{Bool, cond}
-use mathlib.Core.List.{List, [], ◌∷◌, ◌++◌}
+use mathlib.Core.List.{List, [], ◌∷◌}
 use mathlib.Core.Logic.{◌≢◌}
 use Prim.Native.Nat.{ℕ, ◌+◌, ◌-◌, ◌*◌, ◌/◌, ◌%◌, ◌≤◌, ◌<◌}
 use native.Mathlib.Decide.{dec_lt}
-use native.Mathlib.Numerals.{add-one}
 use native.Mathlib.Omega.{arith}
 use borrow.Author.Tests.{eq-eqb, ne_eqb}
 use lib.ListN.{length, get_or, take, drop, length-drop}
@@ -16,7 +15,7 @@ use Rattle.matrix.specs.Limits.{max_strains, missing}
 use Rattle.matrix.specs.Place.{pair_count, pair_place}
 use Rattle.matrix.proofs.Places.{place-bound, pair-place-up, pair-place-down}
 use Rattle.writing.specs.Text.{decimal, Wrote}
-use Rattle.writing.proofs.Writing.{wrote_none, wrote_then, wrote-length}
+use Rattle.writing.proofs.Writing.{wrote_then, wrote-length}
 use Rattle.writing.proofs.Decimals.{decimal-length}
 use Rattle.pieces.specs.Pieces.{pieces}
 use Rattle.phylip_text.specs.Form.{name_size}

@@ -9,13 +9,12 @@ use borrow.Author.Tests.{eqb-true, eq-eqb, ne_eqb, not-false}
 use lib.Dec.{eqb}
 use lib.ListN.{length, get_or, take, drop_of_length-le}
 use lib.Seq.{get_or-take, length-take-le}
-use Rattle.exact.specs.Table.{table}
 use Rattle.exact.proofs.Fill.{table_is, table_cong}
 use Rattle.verdict.specs.Answer.{Answer, pass, fault, answer_of, refusal_of, test, ◌or_else◌}
 use Rattle.verdict.specs.declared.Verdict.{Verdict}
 use Rattle.verdict.specs.declared.Verdict.TheVariants.{Accepted, Refused}
 use Rattle.verdict.specs.declared.Refusal.{Refusal}
-use Rattle.verdict.proofs.Answers.{or_else_pass, test-pass, or_none, not_pass, passes}
+use Rattle.verdict.proofs.Answers.{or_else_pass, test-pass, or_none, not_pass}
 use Rattle.matrix.specs.Limits.{max_strains}
 use Rattle.matrix.specs.Place.{pair_count, pair_at}
 use Rattle.matrix.proofs.Places.{place-onto, stands_at}

@@ -5,7 +5,6 @@ use mathlib.Core.List.{List}
 use Prim.Native.Nat.{ℕ}
 use lib.ListN.{length}
 use Rattle.exact.proofs.Decide.{by_cases}
-use Rattle.verdict.specs.declared.Verdict.{Verdict}
 use Rattle.verdict.proofs.Answers.{passes, same_answer}
 use Rattle.writing.proofs.Settled as one
 use Rattle.phylip_text.specs.Tests.{write_tests}

@@ -2,19 +2,18 @@
 use mathlib.Core.Path.{◌≡◌, refl, sym, ◌∙◌, ap, ap₂}
 use mathlib.Core.Bool.{Bool, true, false}
 use mathlib.Core.List.{List}
-use Prim.Native.Nat.{ℕ, ◌+◌, ◌≤◌, ◌<◌}
+use Prim.Native.Nat.{ℕ, ◌+◌, ◌≤◌}
 use native.Mathlib.Omega.{arith}
 use lib.ListN.{length, get_or}
-use Rattle.verdict.specs.Answer.{Answer, pass, fault, answer_of, refusal_of, test, ◌or_else◌}
+use Rattle.verdict.specs.Answer.{Answer, pass, fault, answer_of, test, ◌or_else◌}
 use Rattle.verdict.specs.declared.Reason.TheVariants.{Newick}
 use Rattle.verdict.specs.declared.Place.TheVariants.{Nowhere}
-use Rattle.verdict.specs.declared.Verdict.{Verdict}
 use Rattle.verdict.specs.declared.Verdict.TheVariants.{Accepted, Refused}
 use Rattle.verdict.specs.declared.Refusal.{Refusal}
-use Rattle.verdict.proofs.Answers.{not_pass, refused-row, pass_or_else, or_else_pass, test-pass}
+use Rattle.verdict.proofs.Answers.{not_pass, refused-row, or_else_pass, test-pass}
 use Rattle.endian.specs.Bytes.{number}
 use Rattle.records.specs.Names.{name_start}
-use Rattle.records.specs.Form.{body_at, start_of, form_tests}
+use Rattle.records.specs.Form.{start_of, form_tests}
 use Rattle.records.specs.Laid.{LayoutAnswer}
 use Rattle.records.specs.declared.Layout.{Layout}
 use Rattle.records.proofs.Formed.{record-at, form-ends, form_bounded, names-many, names-end}

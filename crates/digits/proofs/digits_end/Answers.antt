@@ -1,0 +1,18 @@
+-- The run is followed byte by byte, until a byte is no digit or the text ends.
+use mathlib.Core.Path.{sym, ◌∙◌}
+use Prim.Native.Nat.{◌-◌}
+use Rattle.digits.specs.Digits.{is_digit}
+use Rattle.digits.proofs.Reading.{run-start, run_more, run-stop, run_end}
+use Rattle.digits.proofs.digits_end.Goals as goal
+
+pub loop-end-init : goal.loop-end-init
+loop-end-init c = run-start is_digit c.args.text.now c.args.at c.requires
+
+pub returns-then-not-is_digit : goal.returns-then-not-is_digit
+returns-then-not-is_digit c = run-stop is_digit c.args.text.now c.args.at c.loop-end.end c.loop-end-test.true (sym c.is_digit.ensures ∙ c.if-not-is_digit.true) c.loop-end.invariant
+
+pub loop-end-preserved : goal.loop-end-preserved
+loop-end-preserved c = run_more is_digit c.args.text.now c.args.at c.loop-end.end c.loop-end-test.true (sym c.is_digit.ensures ∙ c.if-not-is_digit.false) c.loop-end.invariant
+
+pub returns : goal.returns
+returns c = run_end is_digit c.args.text.now c.args.at c.loop-end.end c.loop-end-test.false c.loop-end.invariant

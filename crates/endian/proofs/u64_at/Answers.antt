@@ -1,0 +1,7 @@
+-- Four bytes and four behind them: `number-join`.
+use native.Mathlib.Omega.{arith}
+use Rattle.endian.proofs.Numbers.{number-join}
+use Rattle.endian.proofs.u64_at.Goals as goal
+
+pub returns : goal.returns
+returns c = omega (arith, number-join 4 4 c.args.s.now c.args.at)
