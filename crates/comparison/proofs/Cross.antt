@@ -1,12 +1,12 @@
 -- Two fractions a/d and b/e compared by the signs and the magnitudes of their cross products.
 use mathlib.Core.Path.{◌≡◌, refl, sym, ◌∙◌}
-use mathlib.Core.Bool.{Bool, true, false, true≢false}
-use Prim.Native.Nat.{ℕ, zero, suc, ◌+◌, ◌*◌, ◌≤◌, ◌<◌}
+use mathlib.Core.Bool.{true, false, true≢false}
+use Prim.Native.Nat.{ℕ, zero, suc, ◌*◌, ◌≤◌}
 use native.Mathlib.Omega.{arith}
 use borrow.Author.Tests.{lt-ltb, le-ltb}
 use lib.Dec.{ltb, leb-suc-suc}
 use lib.IntN.{ℤ, pos, negsuc, neg_ℤ, ◌*ℤ◌, nat_abs}
-use lib.Signed.{lt_z, le_z}
+use lib.Signed.{lt_z}
 
 -- a native comparison computes at literals only
 ltb-down : (x y : ℕ) → ltb (suc x) (suc y) ≡ ltb x y

@@ -1,9 +1,9 @@
 -- One value for each desk: two that are held and stand for the same desk are equal (`one-held`). So each call's contract leaves one answer and
 -- one desk (`one-step`).
 use mathlib.Core.Path.{◌≡◌, refl, sym, ◌∙◌, ap, ap₂, subst}
-use mathlib.Core.Bool.{Bool, true, false, cond, true≢false}
+use mathlib.Core.Bool.{Bool, true, false, cond}
 use mathlib.Core.List.{List}
-use Prim.Native.Nat.{ℕ, ◌≤◌, ◌<◌}
+use Prim.Native.Nat.{ℕ, ◌≤◌}
 use native.Mathlib.Decide.{dec_lt}
 use native.Mathlib.Omega.{arith}
 use lib.IntN.{ℤ, pos}
@@ -12,8 +12,6 @@ use lib.Seq.{ext_get_or, get_or-take, length-take-le}
 use Rattle.exact.proofs.Decide.{by_cases}
 use Rattle.verdict.specs.declared.Verdict.{Verdict}
 use Rattle.verdict.proofs.Answers.{same_answer}
-use Rattle.matrix.specs.Limits.{max_pairs}
-use Rattle.tree_theory.specs.Limits.{max_edges}
 use Rattle.tree_theory.proofs.EdgeTables.{one_table}
 use Rattle.correction_theory.specs.Kept.{Beside}
 use Rattle.desk_theory.specs.Desk as calls
@@ -21,7 +19,7 @@ use Rattle.desk.specs.declared.Posting.{Posting}
 use Rattle.desk.specs.declared.Bench.{Bench}
 use Rattle.desk.specs.declared.Desk.{Desk}
 use Rattle.desk.specs.declared.Answered.{Answered}
-use Rattle.desk.specs.Held.{matrix_of, tree_of, numerators_of, posting_of, table_of, desk_of, Blank, Unposted, PostingHeld, BenchHeld, Held, Steps}
+use Rattle.desk.specs.Held.{matrix_of, tree_of, numerators_of, posting_of, table_of, desk_of, PostingHeld, BenchHeld, Held, Steps}
 
 -- two lists of one length with the same front, and one value behind it
 same_list_lem : {A : Type 0} (d : A) (k : ℕ) (x y : List A) → length x ≡ length y → take k x ≡ take k y → ((i : ℕ) → k ≤ i → get_or x i d ≡ d) → ((i : ℕ) → k ≤ i → get_or y i d ≡ d) → x ≡ y

@@ -1,14 +1,14 @@
 -- A proposal on a desk: each answer is the definition's (`bench-refused`, `lengths-refused`, `proposal-passes`), and what is accepted stands in
 -- its bench's name (`proposal-steps`). A table taken down leaves none (`withdrawal_steps`).
-use mathlib.Core.Path.{◌≡◌, refl, sym, ◌∙◌, ap, subst}
+use mathlib.Core.Path.{◌≡◌, sym, ◌∙◌, ap, subst}
 use mathlib.Core.Bool.{Bool, true, false, cond, true≢false}
 use mathlib.Core.List.{List}
 use Prim.Native.Nat.{ℕ, ◌≤◌}
 use native.Mathlib.Omega.{arith}
 use lib.IntN.{ℤ, pos}
-use lib.ListN.{length, get_or, take}
+use lib.ListN.{length, take}
 use lib.Seq.{length-take-le}
-use Rattle.verdict.specs.Answer.{Answer, pass, answer_of, refusal_of, ◌or_else◌}
+use Rattle.verdict.specs.Answer.{Answer, pass, answer_of, refusal_of}
 use Rattle.verdict.specs.declared.Refusal.{Refusal}
 use Rattle.verdict.specs.declared.Verdict.{Verdict}
 use Rattle.verdict.specs.declared.Verdict.TheVariants.{Accepted, Refused}
@@ -16,12 +16,11 @@ use Rattle.verdict.specs.declared.Rule.TheVariants.{Plain}
 use Rattle.verdict.proofs.Answers.{refused-row, accepted-row}
 use Rattle.tree_theory.specs.Limits.{max_edges}
 use Rattle.fit_theory.specs.Tests.{proposal_tests}
-use Rattle.fit_theory.specs.Stands.{Posted, Stands}
+use Rattle.fit_theory.specs.Stands.{Stands}
 use Rattle.fit_theory.proofs.Exactly.{proposal-stands}
 use Rattle.desk_theory.specs.Desk as calls
 use Rattle.desk.specs.declared.Bench.{Bench}
 use Rattle.desk.specs.declared.Desk.{Desk}
-use Rattle.desk.specs.declared.Answered.{Answered}
 use Rattle.desk.specs.Held.{matrix_of, tree_of, numerators_of, table_of, desk_of, with_table, bench_tests, standing_tests, Blank, PostingHeld, BenchHeld, Held, Steps}
 use Rattle.desk.proofs.Copies.{copy_size, copy_behind, copy_front}
 use Rattle.desk.proofs.Holding.{passed-step, propose-asked, withdraw-asked, bench-passed, standing-passed, blank-held, blank_none, put-held, put-desk}

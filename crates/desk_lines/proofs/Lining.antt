@@ -3,14 +3,14 @@
 use mathlib.Core.Path.{◌≡◌, refl, sym, ◌∙◌, ap}
 use mathlib.Core.Bool.{Bool, true, false, cond, ◌&&◌}
 use mathlib.Core.List.{List, map, map-map}
-use Prim.Native.Nat.{ℕ, ◌-◌, ◌≤◌, ◌<◌}
+use Prim.Native.Nat.{ℕ, ◌≤◌, ◌<◌}
 use native.Mathlib.Decide.{dec_lt}
 use native.Mathlib.Omega.{arith}
 use lib.IntN.{ℤ}
 use lib.ListN.{length, take, drop}
 use Rattle.exact.proofs.Decide.{by_cases}
 use Rattle.desk_theory.specs.Desk as calls
-use Rattle.desk_text.specs.Words.{words, is_number, value_of, is_signed, signed_of, leading, behind}
+use Rattle.desk_text.specs.Words.{is_number, value_of, is_signed, signed_of, leading, behind}
 use Rattle.desk_text.specs.declared.View.{View}
 use Rattle.desk_text.specs.Meaning.{Meaning, call, shows, no_more, word_at, of_form, propose_in, correct_in, bench_in}
 use Rattle.desk_text.specs.Fields.{cut_word, cut_distance, cut_numerator, cut}

@@ -1,7 +1,7 @@
 -- The line of a kind is the line (`of-kind`).
 use mathlib.Core.Path.{◌≡◌, refl, sym, ◌∙◌, ap}
 use mathlib.Core.List.{List}
-use Prim.Native.Nat.{ℕ, ◌-◌}
+use Prim.Native.Nat.{ℕ}
 use lib.IntN.{ℤ}
 use Rattle.desk_text.specs.Meaning.{silent, wrong, meaning_of}
 use Rattle.desk_text.specs.Fields.{cut}

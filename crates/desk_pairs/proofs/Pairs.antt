@@ -1,5 +1,5 @@
 -- What was written is what the bench's tests ask for: the line of the refusal (`pairs-refused`), or the pairs (`pairs_stand`).
-use mathlib.Core.Path.{◌≡◌, ap, subst}
+use mathlib.Core.Path.{◌≡◌, subst}
 use mathlib.Core.List.{List}
 use Prim.Native.Nat.{ℕ}
 use Rattle.verdict.specs.Answer.{Answer, answer_of, reason_number}

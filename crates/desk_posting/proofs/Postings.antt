@@ -1,18 +1,17 @@
 -- A posting as it is held: copied from what is lent (`copied_keeps`), or with one distance corrected (`corrected-keeps`). Where a posting or a
 -- correction passes, what is left is the posting, with no table beside it (`posting-steps`, `correction_steps`).
 use mathlib.Core.Path.{◌≡◌, refl, sym, ◌∙◌, ap, ap₂, subst}
-use mathlib.Core.Bool.{Bool, true, false, cond, true≢false}
+use mathlib.Core.Bool.{Bool, true, false, true≢false}
 use mathlib.Core.List.{List, ◌++◌}
 use Prim.Native.Nat.{ℕ, ◌+◌, ◌-◌, ◌≤◌}
 use native.Mathlib.Omega.{arith}
-use lib.IntN.{ℤ, pos}
+use lib.IntN.{ℤ}
 use lib.ListN.{length, get_or, take, drop, length-append, length-drop}
 use lib.Seq.{length-take-le, take_at, get_or-append-add, get_or-drop}
 use Rattle.exact.specs.Table.{table}
-use Rattle.verdict.specs.Answer.{Answer, pass, answer_of, refusal_of}
-use Rattle.verdict.specs.declared.Refusal.{Refusal}
+use Rattle.verdict.specs.Answer.{Answer, pass, answer_of}
 use Rattle.verdict.specs.declared.Verdict.{Verdict}
-use Rattle.verdict.specs.declared.Verdict.TheVariants.{Accepted, Refused}
+use Rattle.verdict.specs.declared.Verdict.TheVariants.{Accepted}
 use Rattle.matrix.specs.Limits.{max_pairs}
 use Rattle.matrix.proofs.Places.{pairs-few}
 use Rattle.tree_theory.specs.Limits.{max_edges}
@@ -24,11 +23,10 @@ use Rattle.correction_theory.specs.Kept.{Beside}
 use Rattle.desk_theory.specs.Desk as calls
 use Rattle.desk.specs.declared.Posting.{Posting}
 use Rattle.desk.specs.declared.Desk.{Desk}
-use Rattle.desk.specs.Held.{matrix_of, tree_of, posting_of, desk_of, PostingHeld, Held, IsAnew, Steps}
+use Rattle.desk.specs.Held.{matrix_of, tree_of, posting_of, desk_of, PostingHeld, IsAnew, Steps}
 use Rattle.desk.proofs.Copies.{copy_size, copy_behind, copy_front}
 use Rattle.desk.proofs.Holding.{passed-step, anew-desk, anew-held}
-use Rattle.desk_posting.specs.Postings.{Keeps, Corrects}
-use Rattle.desk_posting.specs.declared.Corrected.{Corrected}
+use Rattle.desk_posting.specs.Postings.{Keeps}
 
 -- ---- what is lent, copied
 module _ (N : ℕ) (ds ps : List ℕ) (s : Posted N ds ps) where

@@ -1,15 +1,14 @@
 -- Where the names record ends; and the print of what a text shows, by its answer.
-use mathlib.Core.Path.{◌≡◌, refl, sym, ◌∙◌, ap, subst}
-use mathlib.Core.Bool.{true}
-use mathlib.Core.List.{List, [], ◌∷◌, ◌++◌}
-use Prim.Native.Nat.{ℕ, ◌+◌, ◌-◌, ◌*◌, ◌<◌, ◌≤◌}
+use mathlib.Core.Path.{◌≡◌, sym, ◌∙◌, ap, subst}
+use mathlib.Core.List.{List, [], ◌∷◌}
+use Prim.Native.Nat.{ℕ, ◌+◌, ◌-◌, ◌<◌, ◌≤◌}
 use native.Mathlib.Omega.{arith}
 use borrow.Author.Tests.{lt-ltb, le-ltb, ltb-false}
 use lib.Dec.{ltb}
 use lib.IntN.{ℤ, pos}
-use lib.ListN.{length, get_or, take, drop, length-drop}
+use lib.ListN.{length, take, drop, length-drop}
 use lib.Seq.{take_all}
-use Rattle.verdict.specs.Answer.{Answer, pass, fault, answer_of, refusal_of, number_of, test, ◌or_else◌}
+use Rattle.verdict.specs.Answer.{pass, answer_of, number_of, test}
 use Rattle.verdict.specs.declared.Verdict.{Verdict}
 use Rattle.verdict.specs.declared.Verdict.TheVariants.{Accepted, Refused}
 use Rattle.verdict.specs.declared.Refusal.{Refusal}
@@ -28,7 +27,7 @@ use Rattle.lines.proofs.Sizes.{line-length}
 use Rattle.answer_lines.specs.Texts.{by_answer}
 use Rattle.names.specs.Record.{record_count, names_tests}
 use Rattle.newick_text.specs.Tests.{row_tests}
-use Rattle.newick_survey.specs.Text.{find_in, head_tests, Held, Answered, by_names, by_form, by_row, Surveyed}
+use Rattle.newick_survey.specs.Text.{find_in, head_tests, Answered, by_names, by_form, by_row, Surveyed}
 use Rattle.newick_survey.specs.declared.Survey.{Survey}
 use Rattle.newick_tree.specs.Tree.{record_end, names_part, text_part, tree_word, row_of, tree_lines, survey_text}
 

@@ -1,12 +1,12 @@
 -- The choice between two sheets: each answer by the tests that led to it, from the tree lengths of the two.
-use mathlib.Core.Path.{◌≡◌, refl, sym, ◌∙◌, ap, ap₂, subst}
+use mathlib.Core.Path.{◌≡◌, sym, ◌∙◌, ap, ap₂, subst}
 use mathlib.Core.Bool.{Bool, true, false, not}
 use mathlib.Core.List.{List}
 use Prim.Native.Nat.{ℕ}
 use lib.Dec.{T}
 use lib.IntN.{ℤ, pos, ◌*ℤ◌}
 use lib.Signed.{lt_z, lt_z_yes, lt_z_no}
-use Rattle.verdict.specs.Answer.{Answer, pass, answer_of, refusal_of, test, ◌or_else◌}
+use Rattle.verdict.specs.Answer.{Answer, pass, answer_of, test, ◌or_else◌}
 use Rattle.verdict.specs.declared.Place.TheVariants.{Nowhere}
 use Rattle.verdict.specs.declared.Reason.TheVariants.{Matrices}
 use Rattle.verdict.specs.declared.Refusal.{Refusal}
@@ -15,10 +15,9 @@ use Rattle.verdict.specs.declared.Rule.TheVariants.{Plain}
 use Rattle.reading.specs.Tests.{sheet_tests}
 use Rattle.sheet.proofs.Laws.{refused-row, accepted-row, or_else_pass}
 use Rattle.comparison.specs.Matrices.{same_matrix}
-use Rattle.comparison.specs.Measured.{LengthOf, Measured}
+use Rattle.comparison.specs.Measured.{Measured}
 use Rattle.comparison.specs.declared.TreeLength.{TreeLength}
 use Rattle.planner.specs.Compared.{compared_tests, length_beside, Chosen}
-use Rattle.planner.specs.declared.Choice.{Choice}
 use Rattle.planner.specs.declared.Choice.TheVariants.{Refused, First, Second}
 
 -- two sheets that are compared are both accepted

@@ -1,6 +1,6 @@
 -- Fractions with positive denominators compared by their cross products: if a/d is less than b/e and b/e is at most c/f, then a/d is less
 -- than c/f.
-use mathlib.Core.Path.{◌≡◌, refl}
+use mathlib.Core.Path.{refl}
 use mathlib.Core.List.{List, [], ◌∷◌}
 use mathlib.Core.Logic.{◌⊎◌, inl, inr}
 use Prim.Native.Nat.{ℕ}

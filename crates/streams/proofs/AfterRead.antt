@@ -1,31 +1,15 @@
--- Where reading stands, by the tests of the number that a read gave; what each case tells of the bytes that came; and that one
--- more read leads from what came before it to what comes of all of them.
-use mathlib.Core.Path.{◌≡◌, refl, sym, ◌∙◌, ap, subst}
-use mathlib.Core.Bool.{true, false, true≢false}
-use mathlib.Core.List.{List, [], ◌∷◌}
+-- What each answer of a read tells of the bytes that came, and that one more read leads from what came before it to what comes
+-- of all of them.
+use mathlib.Core.Path.{◌≡◌, refl, sym, ◌∙◌, subst}
+use mathlib.Core.Bool.{true}
+use mathlib.Core.List.{[], ◌∷◌}
 use Prim.Native.Nat.{ℕ, zero, suc, ◌+◌, ◌-◌, ◌≤◌, ◌<◌}
 use native.Mathlib.Omega.{arith}
-use borrow.Author.Tests.{le-ltb}
 use lib.IntN.{ℤ, pos, negsuc}
-use lib.ListN.{length, take, drop, length-take, length-drop}
-use lib.Signed.{lt_z}
-use Rattle.io.specs.Counts.{clamp_len}
 use Rattle.streams.specs.declared.Taken.{Taken}
 use Rattle.streams.specs.declared.Reading.{Reading}
 use Rattle.streams.specs.declared.Reading.TheVariants.{On, Over}
 use Rattle.streams.specs.Reads.{read_of, ReadOnce, full, over, on, ReadIn}
-
-pub failed : (count : ℕ) (z : ℤ) (n : ℕ) → lt_z z (pos 0) ≡ true → Over (record { count = count; whole = false }) ≡ read_of count z n
-failed count (pos k) n e = absurd (true≢false (sym e ∙ le-ltb k 0 (omega arith)))
-failed count (negsuc k) n e = refl
-
-pub ended : (count : ℕ) (z : ℤ) (n : ℕ) → z ≡ pos 0 → Over (record { count = count; whole = true }) ≡ read_of count z n
-ended count z n e = sym (ap (λ (y : ℤ). read_of count y n) e)
-
-pub went_on : (count : ℕ) (z : ℤ) (n : ℕ) → lt_z z (pos 0) ≡ false → (z ≡ pos 0 → ⊥) → On (count + clamp_len z n) ≡ read_of count z n
-went_on count (pos zero) n e h = absurd (h refl)
-went_on count (pos (suc k)) n e h = refl
-went_on count (negsuc k) n e h = absurd (true≢false e)
 
 -- where it goes on some bytes came, and no more than there was room for; where it is over none came
 Came : ℕ → ℕ → Reading → Type 0
@@ -49,11 +33,6 @@ told room count reading (z, from) h = let n = room - count in record {
   goes_on = λ next e. let q = subst (Came count n) (sym from ∙ e) (came count z n) in (q.0 (omega arith), omega arith, λ taken later. (z ∷ later.0, on h (sym from ∙ e) later.1));
   is-over = λ taken e. let q = subst (Came count n) (sym from ∙ e) (came count z n) in (omega arith, (z ∷ [], over h (sym from ∙ e)));
 }
-
--- the number that a read gave, told by the part of the buffer that was left for it
-pub read-once : (room count : ℕ) (z : ℤ) (after : List ℕ) (reading : Reading) → reading ≡ read_of count z (length (take (length after - count) (drop count after))) → length after ≡ room → count < room → ReadOnce room count reading
-read-once room count z after reading stands size h =
-    let rest : length (take (length after - count) (drop count after)) ≡ room - count = simp (length-take, length-drop) (omega arith) in (z, stands ∙ ap (read_of count z) rest)
 
 pub filled : (room count : ℕ) → room ≡ count → ReadIn room count (record { count = count; whole = true })
 filled room count e = subst (λ (k : ℕ). ReadIn room k (record { count = k; whole = true })) e ([], full)

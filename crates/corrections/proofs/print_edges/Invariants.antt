@@ -1,0 +1,9 @@
+-- One edge a turn.
+use Prim.Native.Nat.{◌≤◌, ◌-◌}
+use Rattle.corrections.proofs.print_edges.Given as goal
+
+abbrev pub invariant-loop-v : goal.invariant-loop-v
+invariant-loop-v g l = l.v ≤ l.edges
+
+abbrev pub decreases-loop-v : goal.decreases-loop-v
+decreases-loop-v g l = l.edges - l.v

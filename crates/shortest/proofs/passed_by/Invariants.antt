@@ -1,0 +1,8 @@
+-- Each turn takes a piece off, and something of it.
+use Rattle.shortest.proofs.passed_by.Given as goal
+
+abbrev pub invariant-loop-left : goal.invariant-loop-left
+invariant-loop-left g l = Unit {0}
+
+abbrev pub decreases-loop-left : goal.decreases-loop-left
+decreases-loop-left g l = l.left
