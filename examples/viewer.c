@@ -2,8 +2,7 @@
  * words; with --print, or -p, its name and its whole print, which is the report or the refusal with its place. With
  * --not-negative, or -0, no length may be negative.
  * Built, on x86-64, with
- *     rt staticlib sheet
- *     rt staticlib pages
+ *     bin/archive sheet pages
  *     cc -Iinclude examples/viewer.c target/staticlib/libpages.a target/staticlib/libsheet.a -o viewer
  * It ends with 0 where every sheet was accepted, with 1 where one was refused, and with 2 where one could not be
  * read or the verdicts could not be written. */
