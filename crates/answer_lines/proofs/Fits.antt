@@ -7,7 +7,7 @@ use lib.IntN.{ℤ, pos}
 use lib.ListN.{length}
 use Rattle.exact.specs.Table.{entry_of}
 use Rattle.verdict.specs.declared.Rule.{Rule}
-use Rattle.mean.specs.declared.Mean.{Mean}
+use Rattle.mean.specs.Mean.{Mean}
 use Rattle.fit_theory.specs.Quantities.{tree_length, f_of, r_of, h_of, rounded_of}
 use Rattle.lines.specs.Lines.{line, edge_word, edge_lines, fit_text, fit_word, length_word, square_word, mean_line, fit_text_by, edge_lines_by}
 use Rattle.reporting.specs.declared.FitReport.{FitReport}

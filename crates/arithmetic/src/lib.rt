@@ -11,11 +11,7 @@ ghost use Rattle.exact.specs.Fraction.{Greatest, Lowest, ◌over◌};
 pub fn magnitude(t: i64) -> u64
     ensures { result ≡ unsigned_abs t }
 {
-    if t >= 0 {
-        t as u64
-    } else {
-        ((0 - (t + 1)) as u64) + 1
-    }
+    t.unsigned_abs()
 }
 
 // The accumulator acc with the signed term t added, modulo 2^64.
@@ -68,6 +64,7 @@ fn common(a: u64, b: u64) -> u64
 {
     let mut x = a;
     let mut y = b;
+    // Euclid's steps; no index is counted.
     while y != 0 {
         let left = x % y;
         x = y;

@@ -49,18 +49,16 @@ fn pass_over(pass: Pass, edges: usize, sums: &[i64; Tree::MAX_EDGES], numerators
     requires edges_in_bounds { edges ≤ length numerators.now }
     ensures { answer_of result ≡ pass_tests pass edges (entry_of numerators.now) (entry_of sums.now) }
 {
-    let mut v = 0;
-    while v < edges {
+    for v in 0..edges {
         let sum = sums[v];
         if at_fault(pass, numerators[v], sum) {
-            return Verdict::Refused(Refusal {
+            return Err(Refusal {
                 reason: reason_of(pass),
                 place: Place::EdgeSum(v, sum),
             });
         }
-        v += 1;
     }
-    Verdict::Accepted
+    Ok(())
 }
 
 // What the edges' sums are asked under each rule.

@@ -7,7 +7,7 @@ use Prim.Native.Nat.{ℕ, ◌+◌, ◌≤◌, ◌<◌}
 use native.Mathlib.Decide.{ℕ_discrete}
 use native.Mathlib.Numerals.{add-one}
 use native.Mathlib.Omega.{arith}
-use borrow.Author.Tests.{eq-eqb, ne_eqb, eqb-false}
+use borrow.Author.Tests.{eq-eqb, ne_eqb}
 use lib.Dec.{eqb, ltb}
 use lib.ListN.{length, get_or, drop, set, length-set}
 use lib.Seq.{drop-drop, get_or-set_same, get_or-set_other}
@@ -16,8 +16,7 @@ use Rattle.verdict.specs.Table.{some}
 use Rattle.verdict.proofs.Table.{some-yes, some-no}
 use Rattle.cells.specs.Cell.{gap, cell_size, cell_out, cell_entry}
 use Rattle.cells.specs.Row.{front, rest, cell_bad, Read}
-use Rattle.cells.specs.declared.RowRead.{RowRead}
-use Rattle.cells.specs.declared.Cell.{Cell}
+use Rattle.std.specs.Prelude.{Some, None}
 
 -- c cells of n are read
 pub record RowAt (s : List ℕ) (at n base : ℕ) (before : List ℕ) (entries : List ℕ) (end : ℕ) (out : Bool) (c : ℕ) : Type 0 where
@@ -58,21 +57,21 @@ module _ (s : List ℕ) (at n base : ℕ) (before : List ℕ) where
     or_right false = refl
 
     -- a cell right behind another
-    pub row_touches : (r : RowRead) → r.bad ≡ true → c < n → (ltb 0 c && eqb start end) ≡ true → r.bad ≡ some n (cell_bad (drop at s))
-    row_touches r b l h = b ∙ sym (some-yes n (cell_bad (drop at s)) c l (ap (λ (q : Bool). eqb (cell_size (front (rest c (drop at s)))) 0 || q) (ap (λ (q : Bool). ltb 0 c && q) (sym touch_is) ∙ h) ∙ or_right (eqb (cell_size (front (rest c (drop at s)))) 0)))
+    pub row_touches : c < n → (ltb 0 c && eqb start end) ≡ true → true ≡ some n (cell_bad (drop at s))
+    row_touches l h = sym (some-yes n (cell_bad (drop at s)) c l (ap (λ (q : Bool). eqb (cell_size (front (rest c (drop at s)))) 0 || q) (ap (λ (q : Bool). ltb 0 c && q) (sym touch_is) ∙ h) ∙ or_right (eqb (cell_size (front (rest c (drop at s)))) 0)))
 
     module _ (size : ℕ) (z : size ≡ cell_size (drop start s)) where
       size_is : size ≡ cell_size (front (rest c (drop at s)))
       size_is = z ∙ ap cell_size at_front
 
-      pub row-none : (r : RowRead) → r.bad ≡ true → c < n → size ≡ 0 → r.bad ≡ some n (cell_bad (drop at s))
-      row-none r b l e = b ∙ sym (some-yes n (cell_bad (drop at s)) c l (ap (λ (q : Bool). q || (ltb 0 c && eqb (gap (rest c (drop at s))) 0)) (eq-eqb (cell_size (front (rest c (drop at s)))) 0 (sym size_is ∙ e))))
+      pub row-none : c < n → size ≡ 0 → true ≡ some n (cell_bad (drop at s))
+      row-none l e = sym (some-yes n (cell_bad (drop at s)) c l (ap (λ (q : Bool). q || (ltb 0 c && eqb (gap (rest c (drop at s))) 0)) (eq-eqb (cell_size (front (rest c (drop at s)))) 0 (sym size_is ∙ e))))
 
-      pub row-turn : (f : Cell) (o : Bool) → c < n → base + n ≤ length before → start + size ≤ length s → (ltb 0 c && eqb start end) ≡ false → size ≢ 0
-          → (f.out ≡ cell_out (drop start s)) × (f.entry ≡ cell_entry (drop start s)) → o ≡ (out || f.out)
-          → RowAt s at n base before (set entries (base + c) f.entry) (start + size) o (c + 1)
+      pub row-turn : (f o : Bool) (x : ℕ) → c < n → base + n ≤ length before → start + size ≤ length s → (ltb 0 c && eqb start end) ≡ false → size ≢ 0
+          → (f ≡ cell_out (drop start s)) × (x ≡ cell_entry (drop start s)) → o ≡ (out || f)
+          → RowAt s at n base before (set entries (base + c) x) (start + size) o (c + 1)
       unfolding rest some
-      row-turn f o l m w h e p q = rw add-one (record {
+      row-turn f o x l m w h e p q = rw add-one (record {
         few = l;
         within = w;
         here = sym (drop-drop size start s) ∙ ap₂ (λ (k : ℕ) (x : List ℕ). drop k x) size_is at_front;
@@ -80,19 +79,19 @@ module _ (s : List ℕ) (at n base : ℕ) (before : List ℕ) where
             (λ r. ap (cell_bad (drop at s)) r ∙ ap₂ (λ (a b : Bool). a || b) (ne_eqb (cell_size (front (rest c (drop at s)))) 0 (λ y. e (size_is ∙ y))) (ap (λ (b : Bool). ltb 0 c && b) (sym touch_is) ∙ h))
             (λ r. t.good k (omega arith));
         out-is = q ∙ ap₂ (λ (a b : Bool). a || b) t.out-is (p.0 ∙ ap cell_out at_front);
-        size = length-set entries (base + c) f.entry ∙ t.size;
-        kept = λ k j. get_or-set_other entries (base + c) k f.entry 0 (λ r. omega arith) ∙ t.kept k j;
+        size = length-set entries (base + c) x ∙ t.size;
+        kept = λ k j. get_or-set_other entries (base + c) k x 0 (λ r. omega arith) ∙ t.kept k j;
         each = λ k j. by_cases (ℕ_discrete k c)
-            (λ r. ap (λ (x : ℕ). get_or (set entries (base + c) f.entry) (base + x) 0) r ∙ get_or-set_same entries (base + c) f.entry 0 (omega (arith, t.size)) ∙ p.1 ∙ ap cell_entry at_front ∙ sym (ap (λ (x : ℕ). cell_entry (front (rest x (drop at s)))) r))
-            (λ r. get_or-set_other entries (base + c) (base + k) f.entry 0 (λ q. r (omega arith)) ∙ t.each k (omega arith));
+            (λ r. ap (λ (y : ℕ). get_or (set entries (base + c) x) (base + y) 0) r ∙ get_or-set_same entries (base + c) x 0 (omega (arith, t.size)) ∙ p.1 ∙ ap cell_entry at_front ∙ sym (ap (λ (x : ℕ). cell_entry (front (rest x (drop at s)))) r))
+            (λ r. get_or-set_other entries (base + c) (base + k) x 0 (λ q. r (omega arith)) ∙ t.each k (omega arith));
       })
 
-  pub row-end : (entries : List ℕ) (end : ℕ) (out : Bool) (c : ℕ) → n ≤ c → RowAt s at n base before entries end out c → Read s at n base before entries (record { bad = false; end = end; out = out })
+  pub row-end : (entries : List ℕ) (end : ℕ) (out : Bool) (c : ℕ) → n ≤ c → RowAt s at n base before entries end out c → Read s at n base before entries (Some (record { end = end; out = out }))
   row-end entries end out c h t = let q : c ≡ n = omega (arith, t.few) in record {
     bad-is = sym (some-no n (cell_bad (drop at s)) (λ k l. t.good k (omega arith)));
     size = t.size;
     kept = t.kept;
-    cells = λ _. record {
+    cells = record {
       within = t.within;
       behind-all = t.here ∙ ap (λ (k : ℕ). rest k (drop at s)) q;
       out-is = t.out-is ∙ ap (λ (k : ℕ). some k (λ m. cell_out (front (rest m (drop at s))))) q;
@@ -100,5 +99,5 @@ module _ (s : List ℕ) (at n base : ℕ) (before : List ℕ) where
     };
   }
 
-  pub row-bad : {entries : List ℕ} {end : ℕ} {out : Bool} {c : ℕ} (r : RowRead) → RowAt s at n base before entries end out c → r.bad ≡ true → r.bad ≡ some n (cell_bad (drop at s)) → Read s at n base before entries r
-  row-bad r t b e = record { bad-is = e; size = t.size; kept = t.kept; cells = λ q. absurd (eqb-false 0 0 (sym b ∙ q) refl) }
+  pub row-bad : {entries : List ℕ} {end : ℕ} {out : Bool} {c : ℕ} → RowAt s at n base before entries end out c → true ≡ some n (cell_bad (drop at s)) → Read s at n base before entries None
+  row-bad t e = record { bad-is = e; size = t.size; kept = t.kept; cells = tt }

@@ -1,7 +1,7 @@
 -- The units of a decimal, and what a cell is judged by. What is read is cut at 10^15, far above 5.0000, so cutting changes no judgement
 -- (`cut-seen`).
 use mathlib.Core.Path.{◌≡◌, refl, sym, ◌∙◌, ap, ap₂}
-use mathlib.Core.Bool.{Bool, true, false, cond, ◌||◌}
+use mathlib.Core.Bool.{Bool, true, false, cond, not, ◌||◌, true≢false}
 use mathlib.Core.List.{List}
 use mathlib.Core.Logic.{◌≢◌}
 use Prim.Native.Nat.{ℕ, suc, ◌+◌, ◌-◌, ◌*◌, ◌≤◌, ◌<◌}
@@ -16,7 +16,8 @@ use Rattle.matrix.specs.Limits.{max_distance, missing}
 use Rattle.digits.specs.Digits.{run, is_digit, digit_of, most, at_most, number_from}
 use Rattle.digits.proofs.Reading.{both_true, inside, low-cut, high_cut, cut_again, slice_is}
 use Rattle.cells.specs.Cell.{whole, pointed, part, places, is_missing, decimal_size, cell_size, units_of, units_out, decimal_out, decimal_entry, cell_out, cell_entry}
-use Rattle.cells.specs.declared.Cell.{Cell}
+use Rattle.std.specs.Prelude.{Option, Some, None, is_some, is_none, IfSome}
+use Rattle.std.specs.Option.{unwrap_or}
 
 -- ---- scaled
 pub scale-turn : (k all next n : ℕ) → k < 4 → next ≡ at_most (all * 10 + digit_of 48) → at_most (number_from all (replicate (4 - k) 48)) ≡ n → at_most (number_from next (replicate (4 - (k + 1)) 48)) ≡ n
@@ -49,9 +50,27 @@ pub cell_missing : (l : List ℕ) → is_missing l ≡ true → (false ≡ cell_
 unfolding cell_out cell_entry
 cell_missing l e = (rw e, rw e)
 
-pub cell_decimal : (l : List ℕ) (o : Bool) (x : ℕ) → is_missing l ≡ false → (o ≡ decimal_out l) × (x ≡ decimal_entry l) → (o ≡ cell_out l) × (x ≡ cell_entry l)
+pub cell_decimal : (l : List ℕ) (r : Option ℕ) → is_missing l ≡ false → (is_none r ≡ decimal_out l) × IfSome r (λ x. x ≡ decimal_entry l) → (is_none r ≡ cell_out l) × IfSome r (λ x. x ≡ cell_entry l)
 unfolding cell_out cell_entry
-cell_decimal l o x e p = (p.0 ∙ sym (ap (λ (q : Bool). cond q false (decimal_out l)) e), p.1 ∙ sym (ap (λ (q : Bool). cond q missing (decimal_entry l)) e))
+cell_decimal l r e p = rw e p
+
+-- a cell that is out has 0 for its entry
+out-entry : (l : List ℕ) → cell_out l ≡ true → 0 ≡ cell_entry l
+unfolding cell_out cell_entry
+out-entry l e = go (is_missing l) (decimal_out l) e
+  where
+    go : (m d : Bool) → cond m false d ≡ true → 0 ≡ cond m missing (cond d 0 (units_of l))
+    go true d h = absurd (true≢false (sym h))
+    go false true h = refl
+    go false false h = absurd (true≢false (sym h))
+
+-- what is kept of a cell, by what is read of it
+pub cell-kept : (l : List ℕ) (r : Option ℕ) (o : Bool) (x : ℕ) → (is_none r ≡ cell_out l) × IfSome r (λ y. y ≡ cell_entry l) → is_some r ≡ not o → x ≡ unwrap_or r 0
+    → (o ≡ cell_out l) × (x ≡ cell_entry l)
+cell-kept l None true x p e f = (p.0, f ∙ out-entry l (sym p.0))
+cell-kept l None false x p e f = absurd (true≢false (sym e))
+cell-kept l (Some y) true x p e f = absurd (true≢false e)
+cell-kept l (Some y) false x p e f = (p.0, f ∙ p.1)
 
 -- ---- the units
 module _ (s : List ℕ) (at point : ℕ) (e : point ≡ at + run is_digit (drop at s)) where
@@ -112,5 +131,11 @@ cut-seen k u = by_cases (dec_lt most u)
     (e ∙ sym f, ap (λ (q : Bool). cond q 0 (at_most u)) e ∙ sym (ap (λ (q : Bool). cond q 0 u) f)))
     (λ h. let e : at_most u ≡ u = low-cut u (omega arith) in (ap (units_out k) e, ap (λ (x : ℕ). cond (units_out k x) 0 x) e))
 
-pub seen_as : (l : List ℕ) (k u : ℕ) (r : Cell) → k ≡ places l → u ≡ at_most (units_of l) → (r.out ≡ units_out k u) × (r.entry ≡ cond (units_out k u) 0 u) → (r.out ≡ decimal_out l) × (r.entry ≡ decimal_entry l)
-seen_as l k u r e f p = (p.0 ∙ ap₂ units_out e f ∙ (cut-seen (places l) (units_of l)).0, p.1 ∙ ap₂ (λ (a b : ℕ). cond (units_out a b) 0 b) e f ∙ (cut-seen (places l) (units_of l)).1)
+-- a number that is judged is judged as the cut one, and is none where that is out
+pub seen_as : (l : List ℕ) (k u : ℕ) (r : Option ℕ) → k ≡ places l → u ≡ at_most (units_of l) → (is_none r ≡ units_out k u) × IfSome r (λ x. x ≡ u)
+    → (is_none r ≡ decimal_out l) × IfSome r (λ x. x ≡ decimal_entry l)
+seen_as l k u None e f p = (p.0 ∙ ap₂ units_out e f ∙ (cut-seen (places l) (units_of l)).0, tt)
+seen_as l k u (Some x) e f p = (p.0 ∙ ap₂ units_out e f ∙ (cut-seen (places l) (units_of l)).0, p.1 ∙ held)
+  where
+    held : u ≡ decimal_entry l
+    held = sym (ap (λ (q : Bool). cond q 0 u) (sym p.0)) ∙ ap₂ (λ (a b : ℕ). cond (units_out a b) 0 b) e f ∙ (cut-seen (places l) (units_of l)).1

@@ -1,5 +1,5 @@
 -- The cells of a row, one behind the other: any gap or none before the first, a gap between two.
-use Rattle.std.specs.Prelude.{◌≡◌, Bool, false, ◌&&◌, ◌||◌, List, ℕ, zero, suc, ◌+◌, ◌<◌, ◌≤◌, eqb, ltb, length, get_or, drop}
+use Rattle.std.specs.Prelude.{◌≡◌, Bool, ◌&&◌, ◌||◌, List, ℕ, zero, suc, ◌+◌, ◌<◌, ◌≤◌, eqb, ltb, length, get_or, drop, Option, is_none, IfSome}
 use Rattle.verdict.specs.Table.{some}
 use Rattle.cells.specs.Cell.{gap, cell_size, cell_out, cell_entry}
 use Rattle.cells.specs.declared.RowRead.{RowRead}
@@ -32,9 +32,9 @@ pub record Cells (s : List ℕ) (at n base : ℕ) (entries : List ℕ) (r : RowR
   pub out-is : r.out ≡ some n (λ c. cell_out (cell_text (drop at s) c))
   pub each : (c : ℕ) → c < n → get_or entries (base + c) 0 ≡ cell_entry (cell_text (drop at s) c)
 
--- what is read of n cells, whether of the form or not; no entry before `base` changes
-pub record Read (s : List ℕ) (at n base : ℕ) (before after : List ℕ) (r : RowRead) : Type 0 where
-  pub bad-is : r.bad ≡ some n (cell_bad (drop at s))
+-- what is read of n cells, nothing where one is not of the form; no entry before `base` changes
+pub record Read (s : List ℕ) (at n base : ℕ) (before after : List ℕ) (r : Option RowRead) : Type 0 where
+  pub bad-is : is_none r ≡ some n (cell_bad (drop at s))
   pub size : length after ≡ length before
   pub kept : (k : ℕ) → k < base → get_or after k 0 ≡ get_or before k 0
-  pub cells : r.bad ≡ false → Cells s at n base after r
+  pub cells : IfSome r (λ x. Cells s at n base after x)

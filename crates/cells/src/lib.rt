@@ -2,7 +2,7 @@
 // judged and kept as it is passed.
 #![tactic(auto)]
 
-ghost use Rattle.std.specs.Prelude.{◌≡◌, true, cond, ◌&&◌, ◌||◌, ◌+◌, ◌-◌, ◌≤◌, eqb, ltb, length, drop, replicate};
+ghost use Rattle.std.specs.Prelude.{◌≡◌, ◌&&◌, ◌+◌, ◌-◌, ◌≤◌, eqb, ltb, length, drop, replicate, is_none, IfSome};
 ghost use Rattle.matrix.specs.Limits.{max_strains};
 ghost use Rattle.digits.specs.Digits.{most, at_most, number_from};
 ghost use Rattle.cells.specs.Cell.{in_gap, gap, cell_size, decimal_size, is_missing, cell_out, cell_entry, units_out, decimal_out, decimal_entry};
@@ -34,14 +34,12 @@ fn gap_end(text: &[u8], at: usize) -> usize
     requires { at ≤ length text.now }
     ensures { (result ≡ at + gap (drop at text.now)) × (result ≤ length text.now) }
 {
-    let mut end = at;
-    while end < text.len() {
+    for end in at..text.len() {
         if !in_gap(text[end], digits::byte_at(text, end + 1)) {
             return end;
         }
-        end += 1;
     }
-    end
+    text.len()
 }
 
 // Whether `-1` stands at a place.
@@ -91,47 +89,29 @@ fn scaled(number: u64, places: usize) -> u64
     ensures { (result ≡ at_most (number_from number (replicate (4 - places) 48))) × (result ≤ most) }
 {
     let mut all = number;
-    let mut k = places;
-    while k < 4 {
+    for k in places..4 {
         all = digits::longer(all, 48);
-        k += 1;
     }
     all
 }
 
-// A cell: whether it is out, and what a matrix holds of it.
-#[derive(Clone, Copy)]
-pub struct Cell {
-    pub out: bool,
-    pub entry: u16,
-}
-
-// A number of units and its places, as a cell.
-fn judged(units: u64, places: usize) -> Cell
-    ensures { (result.out ≡ units_out places units) × (result.entry ≡ cond (units_out places units) 0 units) }
+// A number of units and its places, as a matrix holds it; none where it is out.
+fn judged(units: u64, places: usize) -> Option<u16>
+    ensures { (is_none result ≡ units_out places units) × IfSome result (λ entry. entry ≡ units) }
 {
     if places > 4 {
-        return Cell {
-            out: true,
-            entry: 0,
-        };
+        return None;
     }
     if units > Matrix::MAX_DISTANCE as u64 {
-        return Cell {
-            out: true,
-            entry: 0,
-        };
+        return None;
     }
-    Cell {
-        out: false,
-        entry: units as u16,
-    }
+    Some(units as u16)
 }
 
 // The decimal at a place.
-fn decimal(text: &[u8], at: usize) -> Cell
+fn decimal(text: &[u8], at: usize) -> Option<u16>
     requires { at ≤ length text.now }
-    ensures { (result.out ≡ decimal_out (drop at text.now)) × (result.entry ≡ decimal_entry (drop at text.now)) }
+    ensures { (is_none result ≡ decimal_out (drop at text.now)) × IfSome result (λ entry. entry ≡ decimal_entry (drop at text.now)) }
 {
     let point = digits::digits_end(text, at);
     let whole = digits::number(text, 0, at, point);
@@ -144,37 +124,22 @@ fn decimal(text: &[u8], at: usize) -> Cell
     judged(scaled(all, places), places)
 }
 
-// The cell at a place.
-fn cell_at(text: &[u8], at: usize) -> Cell
+// What a matrix holds of the cell at a place; none where it is out.
+fn cell_at(text: &[u8], at: usize) -> Option<u16>
     requires { at ≤ length text.now }
-    ensures { (result.out ≡ cell_out (drop at text.now)) × (result.entry ≡ cell_entry (drop at text.now)) }
+    ensures { (is_none result ≡ cell_out (drop at text.now)) × IfSome result (λ entry. entry ≡ cell_entry (drop at text.now)) }
 {
     if is_missing(text, at) {
-        return Cell {
-            out: false,
-            entry: Matrix::MISSING,
-        };
+        return Some(Matrix::MISSING);
     }
     decimal(text, at)
 }
 
-// What the cells of a row came to: whether one is not of the form, and where none is so, where they end and whether one is out.
+// What the cells of a row of the form came to: where they end, and whether one of them is out.
 #[derive(Clone, Copy)]
 pub struct RowRead {
-    pub bad: bool,
     pub end: usize,
     pub out: bool,
-}
-
-// A row that is not of the form.
-pub fn bad_row() -> RowRead
-    ensures { result.bad ≡ true }
-{
-    RowRead {
-        bad: true,
-        end: 0,
-        out: false,
-    }
 }
 
 // Whether a cell that is not the first stands right behind another.
@@ -187,42 +152,26 @@ fn touches(c: usize, end: usize, start: usize) -> bool
     start == end
 }
 
-// Whether one of two holds.
-pub fn either(a: bool, b: bool) -> bool
-    ensures { result ≡ (a || b) }
-{
-    if a {
-        return true;
-    }
-    b
-}
-
-// The n cells at a place, their entries from `base` on.
-pub fn cells(text: &[u8], at: usize, n: usize, base: usize, entries: &mut [u16]) -> RowRead
+// The n cells at a place, their entries from `base` on, 0 for one that is out; none where one is not of the form.
+pub fn cells(text: &[u8], at: usize, n: usize, base: usize, entries: &mut [u16]) -> Option<RowRead>
     requires { (at ≤ length text.now) × (n ≤ max_strains) × (base + n ≤ length entries.old) }
     ensures { Read text.now at n base entries.old entries.new result }
 {
     let mut end = at;
     let mut out = false;
-    let mut c = 0;
-    while c < n {
+    for c in 0..n {
         let start = gap_end(text, end);
         if touches(c, end, start) {
-            return bad_row();
+            return None;
         }
         let size = cell_size(text, start);
         if size == 0 {
-            return bad_row();
+            return None;
         }
         let found = cell_at(text, start);
-        entries[base + c] = found.entry;
-        out = either(out, found.out);
+        entries[base + c] = found.unwrap_or(0);
+        out |= found.is_none();
         end = start + size;
-        c += 1;
     }
-    RowRead {
-        bad: false,
-        end,
-        out,
-    }
+    Some(RowRead { end, out })
 }

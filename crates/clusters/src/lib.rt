@@ -13,23 +13,14 @@ ghost use Rattle.tree_theory.specs.Cluster.{bit_at, cluster};
 
 use tree::Tree;
 
-// Zeros, by a function of its own: proofs then carry a name in place of every entry.
-fn no_masks() -> [u64; Tree::MAX_VERTICES]
-    ensures { result ≡ table max_vertices (λ _. 0) }
-{
-    [0; Tree::MAX_VERTICES]
-}
-
 // The masks that clusters start from: each strain holds itself, an inner vertex nothing.
 pub fn own_bits(n: usize) -> [u64; Tree::MAX_VERTICES]
     requires { n ≤ max_strains }
     ensures { result ≡ table max_vertices (λ w. cond (ltb w n) (2 ^ w) 0) }
 {
-    let mut masks = no_masks();
-    let mut i = 0;
-    while i < n {
+    let mut masks: [u64; Tree::MAX_VERTICES] = arrays::filled(0);
+    for i in 0..n {
         masks[i] = 1u64 << i;
-        i += 1;
     }
     masks
 }
@@ -41,12 +32,10 @@ pub fn clusters(n: usize, parents: &[u8]) -> [u64; Tree::MAX_VERTICES]
     ensures { result ≡ table max_vertices (λ v. cond (leb v (length parents.now)) (cluster n (parent_of parents.now) v) 0) }
 {
     let mut masks = own_bits(n);
-    let mut v = 0;
-    while v < parents.len() {
-        let p = parents[v] as usize;
+    for (v, parent) in parents.iter().enumerate() {
+        let p = *parent as usize;
         let own = masks[v];
         masks[p] = masks[p] | own;
-        v += 1;
     }
     masks
 }

@@ -1,4 +1,4 @@
--- The tree length of an accepted sheet, from its third record; and of any sheet, by its verdict.
+-- The tree length of an accepted sheet, from its third record.
 use mathlib.Core.Path.{◌≡◌, refl, sym, ◌∙◌, ap, ap₂}
 use mathlib.Core.List.{List}
 use Prim.Native.Nat.{ℕ, ◌+◌, ◌*◌, ◌≤◌, ◌<◌}
@@ -12,11 +12,10 @@ use Rattle.exact.specs.Table.{padded, entry_of}
 use Rattle.exact.proofs.Fill.{length-table, get_or_table}
 use Rattle.exact.proofs.Sum.{sum_cong}
 use Rattle.exact.proofs.Sweep.{sum_abs}
+use Rattle.std.specs.Prelude.{Result, Ok, Err, IsOk}
 use Rattle.verdict.specs.Answer.{pass, answer_of}
 use Rattle.verdict.specs.declared.Refusal.{Refusal}
 use Rattle.verdict.specs.declared.Rule.TheVariants.{Plain}
-use Rattle.verdict.specs.declared.Verdict.{Verdict}
-use Rattle.verdict.specs.declared.Verdict.TheVariants.{Accepted, Refused}
 use Rattle.tree_theory.specs.Limits.{max_edges}
 use Rattle.lengths.specs.Limits.{max_numerator}
 use Rattle.fit_theory.specs.Quantities.{tree_length}
@@ -28,9 +27,13 @@ use Rattle.reading.specs.Holds.{denominator_of, edges_of, numerator_at, numerato
 use Rattle.reading.specs.Tests.{sheet_tests}
 use Rattle.reporting.specs.Answers.{max_tree_length}
 use Rattle.sheet.proofs.Laws.{back, not_pass, sheet-stands}
-use Rattle.comparison.specs.declared.TreeLength.{TreeLength}
-use Rattle.comparison.specs.Measured.{LengthOf, Measured}
+use Rattle.comparison.specs.Measured.{LengthOf}
 use Rattle.comparison.proofs.Inside.{lengths-there}
+
+-- what passes has a value
+pub has_value : {A : Type 0} (r : Result A Refusal) → answer_of r ≡ pass → IsOk r
+has_value (Ok x) e = refl
+has_value (Err q) e = absurd (not_pass q e)
 
 -- ---- an accepted sheet
 module _ (s : List ℕ) (z : sheet_tests Plain s ≡ pass) where
@@ -58,7 +61,7 @@ module _ (s : List ℕ) (z : sheet_tests Plain s ≡ pass) where
 
   -- code has the sum as bits
   pub length-of : (t : ℤ) (d : ℕ) → t ≡ sum (edges_of s) (entry_of held) → d ≡ denominator_of s
-      → LengthOf s (record { verdict = Accepted; numerator = to_z w64 (of_z w64 t); denominator = d })
+      → LengthOf s (record { numerator = to_z w64 (of_z w64 t); denominator = d })
   length-of t d e f =
       let small = sum_abs (edges_of s) max_numerator (entry_of held) near in
       let n : nat_abs t ≤ max_tree_length = omega (arith, ap nat_abs e, small, few) in
@@ -84,14 +87,3 @@ module _ (s : List ℕ) (z : sheet_tests Plain s ≡ pass) (x : ℕ) (e : x ≡ 
 
   pub inside : (n : ℕ) → n ≡ edges_of s → x + 6 + 6 + 8 * n ≤ length s
   inside n f = omega (arith, e, f, lengths-there s z)
-
--- ---- any sheet
-module _ (s : List ℕ) (v : Verdict) (a : answer_of v ≡ sheet_tests Plain s) where
-  pub refused_none : (q : Refusal) → v ≡ Refused q → Measured s (record { verdict = v; numerator = pos 0; denominator = 0 })
-  refused_none q e = record { answer = a; length = λ z. absurd (not_pass q (sym (ap answer_of e) ∙ a ∙ z)); none = λ _. (refl, refl) }
-
-  pub accepted : v ≡ Accepted → sheet_tests Plain s ≡ pass
-  accepted e = sym a ∙ ap answer_of e
-
-  pub accepted-length : (r : TreeLength) → v ≡ Accepted → r.verdict ≡ Accepted → LengthOf s r → Measured s r
-  accepted-length r e f l = record { answer = ap answer_of (f ∙ sym e) ∙ a; length = λ _. l; none = λ n. absurd (n (accepted e)) }

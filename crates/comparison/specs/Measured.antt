@@ -1,6 +1,7 @@
 -- The tree length of a sheet, as a fraction.
-use Rattle.std.specs.Prelude.{◌≡◌, List, ℕ, ◌≤◌, pos, nat_abs}
-use Rattle.verdict.specs.Answer.{pass, answer_of}
+use Rattle.std.specs.Prelude.{◌≡◌, List, ℕ, ◌≤◌, nat_abs, Result, IfOk}
+use Rattle.verdict.specs.Answer.{answer_of}
+use Rattle.verdict.specs.declared.Refusal.{Refusal}
 use Rattle.verdict.specs.declared.Rule.TheVariants.{Plain}
 use Rattle.lengths.specs.Limits.{max_denominator}
 use Rattle.fit_theory.specs.Quantities.{tree_length}
@@ -17,8 +18,7 @@ pub record LengthOf (s : List ℕ) (r : TreeLength) : Type 0 where
   pub one : 1 ≤ r.denominator
   pub most : r.denominator ≤ max_denominator
 
--- the answer to a sheet; its tree length where it is accepted, zeros where it is refused
-pub record Measured (s : List ℕ) (r : TreeLength) : Type 0 where
-  pub answer : answer_of r.verdict ≡ sheet_tests Plain s
-  pub length : sheet_tests Plain s ≡ pass → LengthOf s r
-  pub none : (sheet_tests Plain s ≡ pass → ⊥) → (r.numerator ≡ pos 0) × (r.denominator ≡ 0)
+-- the answer to a sheet; its tree length where it is accepted
+pub record Measured (s : List ℕ) (r : Result TreeLength Refusal) : Type 0 where
+  pub answer : answer_of r ≡ sheet_tests Plain s
+  pub length : IfOk r (λ x. LengthOf s x)

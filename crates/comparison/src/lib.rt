@@ -13,12 +13,11 @@ ghost use Rattle.comparison.specs.Measured.{LengthOf, Measured};
 ghost use Rattle.comparison.specs.Matrices.{SameRows, same_matrix};
 
 use records::Layout;
-use verdict::{Rule, Verdict};
+use verdict::{Refusal, Rule};
 
-// The answer to a sheet, and its tree length as a numerator over a denominator: zeros where it is refused.
+// The tree length of a sheet, as a numerator over a denominator.
 #[derive(Clone, Copy)]
 pub struct TreeLength {
-    pub verdict: Verdict,
     pub numerator: i64,
     pub denominator: u32,
 }
@@ -26,32 +25,24 @@ pub struct TreeLength {
 // The tree length of an accepted sheet, from its third record.
 fn third_length(s: &[u8]) -> TreeLength
     requires { sheet_tests Rule.Plain s.now ≡ pass }
-    ensures { (result.verdict ≡ Verdict.Accepted) × LengthOf s.now result }
+    ensures { LengthOf s.now result }
 {
-    let laid = records::records(s, 3);
+    let laid = records::records(s, 3).unwrap();
     let body = laid.starts[2] + Layout::HEAD;
     let edges = endian::u16_at(s, body + 4) as usize;
     let numerators = decoding::numerators(s, body + 6, edges);
-    let numerator = fit_numbers::total(edges, &numerators);
     TreeLength {
-        verdict: Verdict::Accepted,
-        numerator,
+        numerator: fit_numbers::total(edges, &numerators),
         denominator: endian::u32_at(s, body),
     }
 }
 
-pub fn tree_length(s: &[u8]) -> TreeLength
+// The same of any sheet, where it is accepted.
+pub fn tree_length(s: &[u8]) -> Result<TreeLength, Refusal>
     ensures { Measured s.now result }
 {
-    let answer = sheet::sheet_judge(Rule::Plain, s);
-    match answer {
-        Verdict::Refused(_) => TreeLength {
-            verdict: answer,
-            numerator: 0,
-            denominator: 0,
-        },
-        Verdict::Accepted => third_length(s),
-    }
+    sheet::sheet_judge(Rule::Plain, s)?;
+    Ok(third_length(s))
 }
 
 // Whether a over d is less than b over e, exactly. The products can pass 2^63 and not 2^64.
@@ -78,13 +69,11 @@ fn same_rows(s: &[u8], t: &[u8], pairs: usize) -> bool
     requires { (body_at 0 + 2 + 2 * pairs ≤ length s.now) × (body_at 0 + 2 + 2 * pairs ≤ length t.now) }
     ensures { SameRows s.now t.now pairs result }
 {
-    let mut k = 0;
-    while k < pairs {
+    for k in 0..pairs {
         let at = Layout::HEAD + 2 + 2 * k;
         if endian::u16_at(s, at) != endian::u16_at(t, at) {
             return false;
         }
-        k += 1;
     }
     true
 }

@@ -16,12 +16,11 @@ use Rattle.exact.specs.Table.{entry_of}
 use Rattle.exact.proofs.Decide.{by_cases}
 use Rattle.exact.proofs.Sign.{nat_abs_sub}
 use Rattle.exact.proofs.Sweep.{ind_abs, ind-one, pairs_abs}
-use Rattle.verdict.specs.Answer.{Answer, pass, fault, answer_of, refusal_of}
+use Rattle.verdict.specs.Answer.{Answer, pass, fault, refusal_of}
 use Rattle.verdict.specs.Table.{first}
 use Rattle.verdict.specs.declared.Place.TheVariants.{Edge}
 use Rattle.verdict.specs.declared.Refusal.{Refusal}
-use Rattle.verdict.specs.declared.Verdict.{Verdict}
-use Rattle.verdict.specs.declared.Verdict.TheVariants.{Accepted, Refused}
+use Rattle.std.specs.Prelude.{Ok, Err}
 use Rattle.verdict.proofs.Answers.{at_first_lem}
 use Rattle.verdict.proofs.Table.{first_cong}
 use Rattle.matrix.specs.Limits.{max_distance}
@@ -35,9 +34,9 @@ use Rattle.fit_theory.specs.Stands.{Posted}
 use Rattle.fit_theory.specs.Tests.{unseen, seen_tests}
 use Rattle.fit_theory.proofs.Ranges.{distance-near}
 use Rattle.moving.specs.Moved.{Moved, Movable, farthest}
-use Rattle.correction_theory.specs.Correction.{Correction, pair_tests, corrected, correction_tests, on_pass}
+use Rattle.correction_theory.specs.Correction.{Correction, corrected, correction_tests, on_pass}
 use Rattle.correction_theory.specs.Kept.{Beside, split_count, moved, sum_change, count_change}
-use Rattle.correction_theory.proofs.Asked.{Apart, pair-passes, corrected-posted}
+use Rattle.correction_theory.proofs.Asked.{Apart, corrected-posted}
 use Rattle.correction_theory.proofs.Moves.{sum_moves, count_moves}
 use Rattle.correction_theory.proofs.Counted.{unseen-counts}
 use Rattle.correcting.specs.Answers.{CorrectAnswer}
@@ -108,19 +107,11 @@ module _ (N : ℕ) (ds ps : List ℕ) (x : List ℤ) (t : EdgeTable (length ps) 
   emptied-none l = rw (sym first-is, le-ltb edge (length ps) l)
 
 -- ---- the whole
-module _ (N : ℕ) (ds ps : List ℕ) (c : Correction) (v : Verdict) (f : answer_of v ≡ correction_tests N ds ps c) where
-  pub refused : {ss cs : List ℤ} (k : Refusal) → Beside N ds ps ss cs → v ≡ Refused k → CorrectAnswer N ps c ds ds ss cs (Refused k)
-  refused k b e = let q : correction_tests N ds ps c ≡ refusal_of k = sym f ∙ ap answer_of e in
-      record { answer = sym q; matrix = sym (ap (λ (z : Answer). on_pass z (corrected ds c) ds) q); beside = b }
+module _ (N : ℕ) (ds ps : List ℕ) (c : Correction) where
+  pub refused : {ss cs : List ℤ} (k : Refusal) → refusal_of k ≡ correction_tests N ds ps c → Beside N ds ps ss cs → CorrectAnswer N ps c ds ds ss cs (Err k)
+  refused k q b = record { answer = q; matrix = ap (λ (z : Answer). on_pass z (corrected ds c) ds) q; beside = b }
 
-  module _ (e : v ≡ Accepted) where
-    pub all_pass : correction_tests N ds ps c ≡ pass
-    all_pass = sym f ∙ ap answer_of e
-
-    pub asked : pair_tests N c ≡ pass
-    asked = pair-passes N ps ds c all_pass
-
-    pub passed : (new : List ℕ) {ss cs : List ℤ} → Posted N ds ps → new ≡ corrected ds c
-        → EdgeTable (length ps) (split_sum N (corrected ds c) ps) ss → EdgeTable (length ps) (split_count N (corrected ds c) ps) cs → CorrectAnswer N ps c ds new ss cs Accepted
-    passed new {ss} {cs} s g t u = subst (λ (m : List ℕ). CorrectAnswer N ps c ds m ss cs Accepted) (sym g)
-        (record { answer = sym all_pass; matrix = sym (ap (λ (z : Answer). on_pass z (corrected ds c) ds) all_pass); beside = record { posted = corrected-posted N ps ds c all_pass s; split = t; counted = u } })
+  pub passed : pass ≡ correction_tests N ds ps c → (new : List ℕ) {ss cs : List ℤ} → Posted N ds ps → new ≡ corrected ds c
+      → EdgeTable (length ps) (split_sum N (corrected ds c) ps) ss → EdgeTable (length ps) (split_count N (corrected ds c) ps) cs → CorrectAnswer N ps c ds new ss cs (Ok tt)
+  passed q new {ss} {cs} s g t u = subst (λ (m : List ℕ). CorrectAnswer N ps c ds m ss cs (Ok tt)) (sym g)
+      (record { answer = q; matrix = ap (λ (z : Answer). on_pass z (corrected ds c) ds) q; beside = record { posted = corrected-posted N ps ds c (sym q) s; split = t; counted = u } })

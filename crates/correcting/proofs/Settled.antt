@@ -5,7 +5,7 @@ use mathlib.Core.List.{List}
 use Prim.Native.Nat.{ℕ}
 use lib.IntN.{ℤ}
 use lib.ListN.{length}
-use Rattle.verdict.specs.declared.Verdict.{Verdict}
+use Rattle.verdict.specs.Answer.{Verdict}
 use Rattle.verdict.proofs.Answers.{same_answer}
 use Rattle.fit_theory.specs.Stands.{Posted}
 use Rattle.correction_theory.specs.Correction.{Correction}

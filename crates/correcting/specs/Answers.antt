@@ -1,7 +1,7 @@
 -- What a correction hands back.
 use Rattle.std.specs.Prelude.{◌≡◌, List, ℕ, ℤ}
 use Rattle.verdict.specs.Answer.{answer_of}
-use Rattle.verdict.specs.declared.Verdict.{Verdict}
+use Rattle.verdict.specs.Answer.{Verdict}
 use Rattle.correction_theory.specs.Correction.{Correction, correction_tests, correct}
 use Rattle.correction_theory.specs.Kept.{Beside}
 

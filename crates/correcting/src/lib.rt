@@ -58,14 +58,12 @@ fn first_emptied(edges: usize, counts: &[i64; Tree::MAX_EDGES]) -> usize
     requires { edges ≤ max_edges }
     ensures { result ≡ first edges (λ v. eqb (nat_abs (entry_of counts.now v)) 0) }
 {
-    let mut v = 0;
-    while v < edges {
+    for v in 0..edges {
         if counts[v] == 0 {
             return v;
         }
-        v += 1;
     }
-    v
+    edges
 }
 
 // What a correction is asked by itself: 24 for the two strains, then 7 for the distance.
@@ -73,33 +71,33 @@ fn check_pair(n: u32, i: u32, j: u32, far: u16) -> Verdict
     ensures { answer_of result ≡ pair_tests n (record { i = i; j = j; far = far }) }
 {
     if i == j {
-        return Verdict::Refused(Refusal {
+        return Err(Refusal {
             reason: Reason::Pair,
             place: Place::Nowhere,
         });
     }
     if n <= i {
-        return Verdict::Refused(Refusal {
+        return Err(Refusal {
             reason: Reason::Pair,
             place: Place::Nowhere,
         });
     }
     if n <= j {
-        return Verdict::Refused(Refusal {
+        return Err(Refusal {
             reason: Reason::Pair,
             place: Place::Nowhere,
         });
     }
     if far == Matrix::MISSING {
-        return Verdict::Accepted;
+        return Ok(());
     }
     if far > Matrix::MAX_DISTANCE {
-        return Verdict::Refused(Refusal {
+        return Err(Refusal {
             reason: Reason::Distance,
             place: Place::Nowhere,
         });
     }
-    Verdict::Accepted
+    Ok(())
 }
 
 // 24, 7, then 26, read off the counts as they would be: a copy is moved, so that a refusal has nothing to undo.
@@ -116,10 +114,7 @@ fn check_correction(
     requires edge_table { EdgeTable (length parents.now) (split_count n distances.now parents.now) counts.now }
     ensures { answer_of result ≡ correction_tests n distances.now parents.now (record { i = i; j = j; far = far }) }
 {
-    let of_pair = check_pair(n, i, j, far);
-    if let Verdict::Refused(refusal) = of_pair {
-        return Verdict::Refused(refusal);
-    }
+    check_pair(n, i, j, far)?;
     let a = i as usize;
     let b = j as usize;
     let old = distances[matrix::pair_place(a, b)];
@@ -128,12 +123,12 @@ fn check_correction(
     moving::move_between(parents.len(), parents, a, b, change, &mut after);
     let edge = first_emptied(parents.len(), &after);
     if edge < parents.len() {
-        return Verdict::Refused(Refusal {
+        return Err(Refusal {
             reason: Reason::Unmeasured,
             place: Place::Edge(edge),
         });
     }
-    Verdict::Accepted
+    Ok(())
 }
 
 // The correction of the pair i j, named in either order, to a distance or to the mark: 24, 7, 26, the first that applies; a refusal
@@ -151,10 +146,7 @@ pub fn correct(
     requires { Beside n distances.old parents.now sums.old counts.old }
     ensures { CorrectAnswer n parents.now (record { i = i; j = j; far = far }) distances.old distances.new sums.new counts.new result }
 {
-    let answer = check_correction(n, distances, parents, counts, i, j, far);
-    if let Verdict::Refused(refusal) = answer {
-        return Verdict::Refused(refusal);
-    }
+    check_correction(n, distances, parents, counts, i, j, far)?;
     let a = i as usize;
     let b = j as usize;
     let at = matrix::pair_place(a, b);
@@ -164,5 +156,5 @@ pub fn correct(
     moving::move_between(parents.len(), parents, a, b, of_sums, sums);
     let of_counts = count_change(old, far);
     moving::move_between(parents.len(), parents, a, b, of_counts, counts);
-    Verdict::Accepted
+    Ok(())
 }

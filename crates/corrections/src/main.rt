@@ -17,25 +17,11 @@ use verdict::Verdict;
 // The most bytes that are read.
 const INPUT: usize = 524_288;
 
-// Zeros, room for that many bytes.
-fn room() -> [u8; INPUT]
-    ensures { INPUT ≡ length result }
-{
-    [0; INPUT]
-}
-
 // The bytes of a correction: two strains and a distance.
 const CORRECTION: usize = 6;
 
 // Room for the longest line.
 const LINE: usize = 128;
-
-// Zeros, room for a line.
-fn blank() -> [u8; LINE]
-    ensures { length result ≡ 128 }
-{
-    [0; LINE]
-}
 
 // A word, or the line of a refusal, at the front of a text.
 fn answer_line(answer: Verdict, word: &[u8], text: &mut [u8; LINE]) -> usize
@@ -43,11 +29,8 @@ fn answer_line(answer: Verdict, word: &[u8], text: &mut [u8; LINE]) -> usize
     ensures { (result ≤ 128) × (length text.new ≡ 128) }
 {
     match answer {
-        Verdict::Refused(refusal) => {
-            let place = refusal.place;
-            lines::refused_line(text, 0, verdict::number(answer), place)
-        }
-        Verdict::Accepted => lines::line(text, 0, word, &[]),
+        Err(refusal) => lines::refused_line(text, 0, u32::from(refusal.reason), refusal.place),
+        Ok(()) => lines::line(text, 0, word, &[]),
     }
 }
 
@@ -55,7 +38,7 @@ fn answer_line(answer: Verdict, word: &[u8], text: &mut [u8; LINE]) -> usize
 fn print_answer(rt: &(impl Print + Eprint), answer: Verdict, word: &[u8]) -> bool
     requires { length word.now ≤ 8 }
 {
-    let mut text = blank();
+    let mut text: [u8; LINE] = arrays::filled(0);
     let written = answer_line(answer, word, &mut text);
     streams::put_out(rt, written, &text)
 }
@@ -64,7 +47,7 @@ fn print_answer(rt: &(impl Print + Eprint), answer: Verdict, word: &[u8]) -> boo
 fn print_numbers(rt: &(impl Print + Eprint), word: &[u8], values: &[i64; 3]) -> bool
     requires { length word.now ≤ 8 }
 {
-    let mut text = blank();
+    let mut text: [u8; LINE] = arrays::filled(0);
     let written = lines::line(&mut text, 0, word, values);
     streams::put_out(rt, written, &text)
 }
@@ -78,13 +61,11 @@ fn print_edges(
 ) -> bool
     requires { edges ≤ max_edges }
 {
-    let mut v = 0;
-    while v < edges {
+    for v in 0..edges {
         let values = [v as i64, sums[v], counts[v]];
         if !print_numbers(rt, b"edge", &values) {
             return false;
         }
-        v += 1;
     }
     true
 }
@@ -98,13 +79,11 @@ fn whole(x: u16) -> i64 {
 fn print_row(rt: &(impl Print + Eprint), n: usize, distances: &[u16], i: usize) -> bool
     requires { (n ≤ max_strains) × (i < n) × (length distances.now ≡ pair_count n) }
 {
-    let mut j = i + 1;
-    while j < n {
+    for j in i + 1..n {
         let values = [i as i64, j as i64, whole(distances[matrix::place(i, j)])];
         if !print_numbers(rt, b"pair", &values) {
             return false;
         }
-        j += 1;
     }
     true
 }
@@ -113,24 +92,11 @@ fn print_row(rt: &(impl Print + Eprint), n: usize, distances: &[u16], i: usize) 
 fn print_pairs(rt: &(impl Print + Eprint), n: usize, distances: &[u16])
     requires { (n ≤ max_strains) × (length distances.now ≡ pair_count n) }
 {
-    let mut i = 0;
-    while i < n {
+    for i in 0..n {
         if !print_row(rt, n, distances, i) {
             return;
         }
-        i += 1;
     }
-}
-
-// Where the next correction stands: at the list's end, where a line did not go out.
-fn behind(at: usize, went: bool, list: &[u8]) -> usize
-    requires { at + 6 ≤ length list.now }
-    ensures { (at < result) × (result ≤ length list.now) }
-{
-    if went {
-        return at + CORRECTION;
-    }
-    list.len()
 }
 
 // Every correction of a list, one behind the other, with a line for each; whether all went out.
@@ -146,17 +112,16 @@ fn correct_all(
     requires { Beside n distances.old parents.now sums.old counts.old }
     ensures { Beside n distances.new parents.now sums.new counts.new }
 {
-    let mut went = true;
-    let mut at = 0;
-    while at + CORRECTION <= list.len() {
-        let i = endian::u16_at(list, at) as u32;
-        let j = endian::u16_at(list, at + 2) as u32;
-        let far = endian::u16_at(list, at + 4);
+    for correction in list.chunks_exact(CORRECTION) {
+        let i = endian::u16_at(correction, 0) as u32;
+        let j = endian::u16_at(correction, 2) as u32;
+        let far = endian::u16_at(correction, 4);
         let answer = correcting::correct(n, distances, parents, sums, counts, i, j, far);
-        went = print_answer(rt, answer, b"ok");
-        at = behind(at, went, list);
+        if !print_answer(rt, answer, b"ok") {
+            return false;
+        }
     }
-    went
+    true
 }
 
 // What a list of corrections to a matrix and a tree that pass gets.
@@ -176,36 +141,31 @@ fn work(rt: &(impl Print + Eprint), n: u32, distances: &mut [u16], parents: &[u8
 // What a matrix, a tree and a list of corrections get.
 fn answer(rt: &(impl Print + Eprint), n: u32, distances: &mut [u16], parents: &[u8], list: &[u8]) {
     let posted = posting::check_posting(n, distances, parents);
-    let went = print_answer(rt, posted, b"posted");
-    match posted {
-        Verdict::Refused(_) => {}
-        Verdict::Accepted => {
-            if went {
-                work(rt, n, distances, parents, list);
-            }
-        }
+    if !print_answer(rt, posted, b"posted") {
+        return;
+    }
+    if let Ok(()) = posted {
+        work(rt, n, distances, parents, list);
     }
 }
 
 // The same of a sheet without lengths: its refusal, or what its tables get.
 fn answer_sheet(rt: &(impl Print + Eprint), sheet: &[u8], list: &[u8]) {
-    let read = reading::read(sheet, 2);
-    let of_reader = read.verdict;
-    if let Verdict::Refused(_) = of_reader {
-        print_answer(rt, of_reader, b"");
-        return;
+    match reading::read(sheet, 2) {
+        Err(refusal) => {
+            print_answer(rt, Err(refusal), b"");
+        }
+        Ok(read) => {
+            let mut distances = read.distances;
+            answer(
+                rt,
+                read.strains,
+                &mut distances[..read.pairs],
+                &sheet[read.parents..read.end],
+                list,
+            );
+        }
     }
-    let mut distances = read.distances;
-    let pairs = read.pairs;
-    let parents = read.parents;
-    let end = read.end;
-    answer(
-        rt,
-        read.strains,
-        &mut distances[..pairs],
-        &sheet[parents..end],
-        list,
-    );
 }
 
 // Where the sheet ends that starts behind a length: no further than the input.
@@ -231,9 +191,8 @@ fn answer_input(rt: &(impl Print + Eprint), s: &[u8]) {
 }
 
 fn main(rt: HostRuntime) {
-    let mut space = room();
-    let taken = streams::take_in(&rt, &mut space);
-    if taken.whole {
-        answer_input(&rt, &space[..taken.count]);
+    let mut space: [u8; INPUT] = arrays::filled(0);
+    if let Ok(count) = streams::take_in(&rt, &mut space) {
+        answer_input(&rt, &space[..count]);
     }
 }

@@ -3,13 +3,15 @@
 use mathlib.Core.Path.{◌≡◌, refl, sym, ◌∙◌, ap, subst}
 use mathlib.Core.List.{List}
 use Prim.Native.Nat.{ℕ, ◌+◌, ◌<◌, ◌≤◌}
+use native.Mathlib.Decide.{ℕ_discrete}
 use native.Mathlib.Numerals.{add-one}
 use native.Mathlib.Omega.{arith}
 use lib.ListN.{set}
 use Rattle.exact.specs.Table.{table, padded}
+use Rattle.exact.proofs.Decide.{by_cases}
 use Rattle.matrix.specs.Limits.{max_strains, max_pairs}
 use Rattle.matrix.specs.Place.{pair_count, place, row_place, from_rows}
-use Rattle.matrix.proofs.Places.{count-more, count_room, count_less, from-rows, pairs-few}
+use Rattle.matrix.proofs.Places.{count-more, count_room, from-rows, pairs-few}
 use Rattle.records.proofs.Decoding.{Decoding, decode_start, decode_of, decode_turn, decode_end}
 
 -- ---- one strain: its distances with 0 to i are read, the last one from `row`
@@ -42,22 +44,22 @@ module _ (n j first : ℕ) (rows : ℕ → ℕ) (few : n ≤ max_strains) (strai
       (decode_of 0 max_pairs (first + j) (from_rows n rows) first held (omega arith) (omega (arith, room)) g))
 
   pub column-turn : (i row row' v : ℕ) (held : List ℕ) → i + 1 < j → row' ≡ row_place n (i + 1) j → v ≡ rows row' → Column n j first rows i row held
-      → Column n j first rows (i + 1) row' (set held (first + (i + 1)) v)
-  column-turn i row row' v held h e f t = one (i + 1) (first + (i + 1)) row' v held h refl e f
+      → Column n j first rows (i + 1) row' (set held (first + i + 1) v)
+  column-turn i row row' v held h e f t = one (i + 1) (first + i + 1) row' v held h (omega arith) e f
       (subst (λ (k : ℕ). Decoding 0 max_pairs (first + j) (from_rows n rows) k held) (omega arith) t.decoding)
 
   pub column-end : (i row : ℕ) (held : List ℕ) → j ≤ i + 1 → Column n j first rows i row held → held ≡ padded 0 max_pairs (first + j) (from_rows n rows)
   column-end i row held h t = decode_end 0 max_pairs (first + j) (from_rows n rows) (first + i + 1) held (omega arith) room t.decoding
 
 -- ---- all: the distances of the strains before j are read
-pub record Reading (n count : ℕ) (rows : ℕ → ℕ) (j first : ℕ) (held : List ℕ) : Type 0 where
+pub record Reading (n : ℕ) (rows : ℕ → ℕ) (j first : ℕ) (held : List ℕ) : Type 0 where
   pub some : 0 < j
   pub begins : first ≡ pair_count j
-  pub within : first ≤ count
+  pub within : first ≤ pair_count n
   pub holds : held ≡ padded 0 max_pairs first (from_rows n rows)
 
-module _ (n count : ℕ) (rows : ℕ → ℕ) where
-  pub read-start : (held : List ℕ) → held ≡ table max_pairs (λ _. 0) → Reading n count rows 1 0 held
+module _ (n : ℕ) (rows : ℕ → ℕ) where
+  pub read-start : (held : List ℕ) → held ≡ table max_pairs (λ _. 0) → Reading n rows 1 0 held
   read-start held e = record {
     some = omega arith;
     begins = refl;
@@ -65,18 +67,16 @@ module _ (n count : ℕ) (rows : ℕ → ℕ) where
     holds = decode_end 0 max_pairs 0 (from_rows n rows) 0 held (omega arith) (omega arith) (decode_start 0 max_pairs 0 (from_rows n rows) held e);
   }
 
-  module _ (all : count ≡ pair_count n) {j first : ℕ} {held : List ℕ} (t : Reading n count rows j first held) where
-    pub strain : first < count → j < n
-    strain more = count_less n j (omega (arith, t.begins))
-
-    pub read-turn : (held' : List ℕ) → first < count → held' ≡ padded 0 max_pairs (first + j) (from_rows n rows) → Reading n count rows (j + 1) (first + j) held'
+  module _ {j first : ℕ} {held : List ℕ} (t : Reading n rows j first held) where
+    pub read-turn : (held' : List ℕ) → j < n → held' ≡ padded 0 max_pairs (first + j) (from_rows n rows) → Reading n rows (j + 1) (first + j) held'
     read-turn held' more e = record {
       some = omega arith;
       begins = omega (arith, t.begins, count-more j) ∙ ap pair_count (sym (add-one j));
-      within = omega (arith, t.begins, count_room n j (strain more));
+      within = omega (arith, t.begins, count_room n j more);
       holds = e;
     }
 
-    pub read-end : count ≤ first → held ≡ padded 0 max_pairs count (from_rows n rows)
-    read-end h = let e : first ≡ count = omega (arith, t.within) in
-        t.holds ∙ ap (λ (k : ℕ). padded 0 max_pairs k (from_rows n rows)) e
+    pub read-end : n ≤ j → held ≡ padded 0 max_pairs (pair_count n) (from_rows n rows)
+    read-end h = t.holds ∙ ap (λ (k : ℕ). padded 0 max_pairs k (from_rows n rows)) (by_cases (ℕ_discrete n j)
+        (λ e. t.begins ∙ ap pair_count (sym e))
+        (λ e. omega (arith, t.within, t.begins, count_room j n (omega arith))))

@@ -27,33 +27,23 @@ fn column(
 {
     let mut row = matrix::row_place(n, 0, j);
     held[first] = endian::u16_at(s, at + 2 * row);
-    let mut i = 0;
-    while i + 1 < j {
+    for i in 0..j - 1 {
         row = matrix::row_below(n, i, j, row);
-        i += 1;
-        held[first + i] = endian::u16_at(s, at + 2 * row);
+        held[first + i + 1] = endian::u16_at(s, at + 2 * row);
     }
 }
 
 // Reads the distances of n strains, whose rows start at `at`, into a table of zeros: each goes to its place in the matrix, and the zeros behind
 // the last stay.
-pub fn distances_into(
-    s: &[u8],
-    at: usize,
-    n: usize,
-    count: usize,
-    held: &mut [u16; Matrix::MAX_PAIRS],
-)
-    requires n_le_max_strains { (n ≤ max_strains) × (count ≡ pair_count n) × (at + 2 * count ≤ length s.now) }
+pub fn distances_into(s: &[u8], at: usize, n: usize, held: &mut [u16; Matrix::MAX_PAIRS])
+    requires n_le_max_strains { (n ≤ max_strains) × (at + 2 * pair_count n ≤ length s.now) }
     requires held_value { held.old ≡ table max_pairs (λ _. 0) }
-    ensures { held.new ≡ padded 0 max_pairs count (from_rows n (λ k. number 2 s.now (at + 2 * k))) }
+    ensures { held.new ≡ padded 0 max_pairs (pair_count n) (from_rows n (λ k. number 2 s.now (at + 2 * k))) }
 {
-    let mut j = 1;
     let mut first = 0;
-    while first < count {
+    for j in 1..n {
         column(s, at, n, j, first, held);
         first += j;
-        j += 1;
     }
 }
 
@@ -63,11 +53,9 @@ pub fn numerators_into(s: &[u8], at: usize, count: usize, held: &mut [i64; Tree:
     requires held_value { held.old ≡ table max_edges (λ _. pos 0) }
     ensures { held.new ≡ padded (pos 0) max_edges count (λ k. twos (number 8 s.now (at + 8 * k))) }
 {
-    let mut k = 0;
-    while k < count {
+    for k in 0..count {
         let x = endian::i64_at(s, at + 8 * k);
         held[k] = x;
-        k += 1;
     }
 }
 
@@ -76,7 +64,7 @@ pub fn numerators(s: &[u8], at: usize, count: usize) -> [i64; Tree::MAX_EDGES]
     requires { (count ≤ max_edges) × (at + 8 * count ≤ length s.now) }
     ensures { result ≡ padded (pos 0) max_edges count (λ k. twos (number 8 s.now (at + 8 * k))) }
 {
-    let mut held = tree::edge_zeros();
+    let mut held: [i64; Tree::MAX_EDGES] = arrays::filled(0);
     numerators_into(s, at, count, &mut held);
     held
 }

@@ -1,7 +1,7 @@
--- What a desk's value stands for, call by call: the tests of the value are those of the definitions (`propose-asked`, `standing-asked`), a
--- refused call leaves the desk (`refused-steps`), a table put in its place is the bench's (`put-desk`, `put-held`), and something posted
--- anew has no table beside it (`anew-desk`, `anew-held`).
-use mathlib.Core.Path.{◌≡◌, refl, sym, ◌∙◌, ap, ap₂, subst, fun_ext}
+-- What a desk's value stands for, call by call: the tests of the value are those of the definitions (`propose-asked`, `standing-row`), a
+-- table put in its place is the bench's (`put-desk`, `put-held`), and something posted anew has no table beside it (`anew-desk`,
+-- `anew-held`).
+use mathlib.Core.Path.{◌≡◌, refl, sym, ◌∙◌, ap, subst, fun_ext}
 use mathlib.Core.Bool.{Bool, true, false, cond, not, ◌||◌, true≢false}
 use mathlib.Core.List.{List}
 use mathlib.Core.Logic.{◌⊎◌, inl, inr, ⊎_elim, ◌≢◌}
@@ -9,149 +9,142 @@ use Prim.Native.Nat.{ℕ}
 use native.Mathlib.Decide.{ℕ_discrete}
 use native.Mathlib.Omega.{arith}
 use lib.Dec.{eqb}
-use lib.IntN.{ℤ, pos}
-use lib.ListN.{length, get_or}
+use lib.IntN.{ℤ}
+use lib.ListN.{length}
 use borrow.Author.Tests.{eqb-true, eq-eqb, ne_eqb}
-use Rattle.exact.specs.Table.{table}
+use Rattle.std.specs.Prelude.{Option, Some, None, is_none, IfSome, Ok, Err}
 use Rattle.exact.proofs.Decide.{by_cases}
-use Rattle.exact.proofs.Fill.{length-table, get_or_table_const}
-use Rattle.verdict.specs.Answer.{Answer, pass, fault, answer_of, refusal_of, test, ◌or_else◌}
+use Rattle.verdict.specs.Answer.{Answer, pass, fault, refusal_of, test, ◌or_else◌}
 use Rattle.verdict.specs.declared.Refusal.{Refusal}
-use Rattle.verdict.specs.declared.Verdict.TheVariants.{Refused}
 use Rattle.verdict.specs.declared.Rule.TheVariants.{Plain}
-use Rattle.verdict.proofs.Answers.{or_else_pass, test-pass}
-use Rattle.matrix.specs.Limits.{max_pairs}
-use Rattle.tree_theory.specs.Limits.{max_edges}
+use Rattle.verdict.proofs.Answers.{or_else_pass, test-pass, not_pass}
 use Rattle.fit_theory.specs.Tests.{proposal_tests, buffer_out}
 use Rattle.correction_theory.specs.Correction.{on_pass}
 use Rattle.desk_theory.specs.Desk as calls
 use Rattle.desk.specs.declared.Posting.{Posting}
-use Rattle.desk.specs.declared.Bench.{Bench}
+use Rattle.desk.specs.declared.Table.{Table}
+use Rattle.desk.specs.declared.Posted.{Posted}
 use Rattle.desk.specs.declared.Desk.{Desk}
-use Rattle.desk.specs.declared.Answered.{Answered}
-use Rattle.desk.specs.Held.{matrix_of, tree_of, numerators_of, posting_of, table_of, of_benches, desk_of, bench_table, with_table, bench_tests, standing_tests, Blank, Unposted, PostingHeld, BenchHeld, Held, IsEmpty, IsAnew, Steps}
+use Rattle.desk.specs.Held.{matrix_of, tree_of, posting_of, table_of, of_benches, posted_of, desk_of, bench_table, with_table, anew, bench_tests, named_table, standing_tests, PostingHeld, TableHeld, PostedHeld, Held, Steps}
 
--- ---- a refused call
-pub refused-steps : (d : Desk) (c : calls.Call) (q : Refusal) (r : Answered) → Held d → (r.verdict ≡ Refused q) × (r.desk ≡ d)
-    → refusal_of q ≡ calls.answer (desk_of d) c → Steps d c r
-refused-steps d c q r h p g = record {
-  answer = ap answer_of p.0 ∙ g;
-  desk = ap desk_of p.1 ∙ ap (λ (a : Answer). on_pass a (calls.effect (desk_of d) c) (desk_of d)) g;
-  held = subst Held (sym p.1) h;
+-- ---- a call that is refused, or passes
+pub refused-steps : (d : Desk) (c : calls.Call) (q : Refusal) → Held d → refusal_of q ≡ calls.answer (desk_of d) c → Steps d c (Err q)
+refused-steps d c q h g = record {
+  answer = g;
+  desk = ap (λ (a : Answer). on_pass a (calls.effect (desk_of d) c) (desk_of d)) g;
+  held = h;
 }
 
--- a call that passes
-pub passed-step : (d : Desk) (c : calls.Call) → pass ≡ calls.answer (desk_of d) c → calls.effect (desk_of d) c ≡ calls.step (desk_of d) c
-passed-step d c g = ap (λ (a : Answer). on_pass a (calls.effect (desk_of d) c) (desk_of d)) g
+pub passed-steps : (d e : Desk) (c : calls.Call) → pass ≡ calls.answer (desk_of d) c → desk_of e ≡ calls.effect (desk_of d) c → Held e → Steps d c (Ok e)
+passed-steps d e c g f h = record {
+  answer = g;
+  desk = f ∙ ap (λ (a : Answer). on_pass a (calls.effect (desk_of d) c) (desk_of d)) g;
+  held = h;
+}
 
 -- ---- the tests
--- 20, 21 where nothing is posted, and whatever is asked behind them
-asked : (out posted : Bool) (p : Posting) (f : ℕ → List ℕ → List ℕ → Answer)
-    → (test 20 out or_else calls.if_posted (posting_of posted p) f) ≡ ((test 20 out or_else test 21 (not posted)) or_else f p.n (matrix_of p) (tree_of p))
-asked true posted p f = refl
-asked false true p f = refl
-asked false false p f = refl
+-- 20, 21 where nothing is posted, and whatever is asked behind them of what is posted
+module _ (x : Posted) where
+  abbrev at : {A : Type 0} → (ℕ → List ℕ → List ℕ → A) → A
+  at f = f x.posting.n (matrix_of x.posting) (tree_of x.posting)
 
-module _ (d : Desk) (b : ℕ) where
-  pub propose-asked : (D : ℕ) (ns : List ℤ)
-      → calls.answer (desk_of d) (calls.propose b D ns) ≡ (bench_tests d b or_else proposal_tests Plain d.posting.n (matrix_of d.posting) (tree_of d.posting) D ns)
-  propose-asked D ns = asked (calls.bench_out b) d.posted d.posting (λ N ds ps. proposal_tests Plain N ds ps D ns)
+  asked : (out : Bool) (f : ℕ → List ℕ → List ℕ → Answer) → (test 20 out or_else at f) ≡ ((test 20 out or_else pass) or_else at f)
+  asked true f = refl
+  asked false f = refl
 
-  -- a bench's number has its table
-  pub bench-named : calls.bench_out b ≡ false → (desk_of d).tables b ≡ table_of d.posting.edges (bench_table d b)
-  bench-named h = go (eqb b 1) (eqb b 2) h
-    where
-      go : (x y : Bool) → not (x || y) ≡ false
-          → cond x (table_of d.posting.edges d.first) (cond y (table_of d.posting.edges d.second) calls.none) ≡ table_of d.posting.edges (cond x d.first d.second)
-      go true y e = refl
-      go false true e = refl
-      go false false e = absurd (true≢false e)
+pub propose-asked : (d : Desk) (x : Posted) (b D : ℕ) (ns : List ℤ) → d.posted ≡ Some x
+    → calls.answer (desk_of d) (calls.propose b D ns) ≡ (bench_tests d b or_else proposal_tests Plain x.posting.n (matrix_of x.posting) (tree_of x.posting) D ns)
+propose-asked d x b D ns e = rw e (asked x (calls.bench_out b) (λ N ds ps. proposal_tests Plain N ds ps D ns))
 
-  none_is : (K : ℕ) (t : Bench) → calls.is_none (table_of K t) ≡ not t.standing
-  none_is K t = go t.standing
-    where
-      go : (x : Bool) → calls.is_none (cond x (calls.lengths t.d (numerators_of K t)) calls.none) ≡ not x
-      go true = refl
-      go false = refl
+-- where the bench's tests refuse, that is the answer
+pub propose-refused : (d : Desk) (b D : ℕ) (ns : List ℤ) (q : Refusal) → refusal_of q ≡ bench_tests d b → refusal_of q ≡ calls.answer (desk_of d) (calls.propose b D ns)
+propose-refused d b D ns q e = go d.posted e
+  where
+    go : (p : Option Posted) → refusal_of q ≡ (test 20 (calls.bench_out b) or_else test 21 (is_none p))
+        → refusal_of q ≡ (test 20 (calls.bench_out b) or_else calls.if_posted (posted_of p).posting (λ N ds ps. proposal_tests Plain N ds ps D ns))
+    go None e = e
+    go (Some x) e = refused-row' (calls.bench_out b) e
+      where
+        refused-row' : (out : Bool) → refusal_of q ≡ (test 20 out or_else pass) → refusal_of q ≡ (test 20 out or_else proposal_tests Plain x.posting.n (matrix_of x.posting) (tree_of x.posting) D ns)
+        refused-row' true e = e
+        refused-row' false e = absurd (not_pass q e)
 
-  -- 20, 21 and what is asked behind them of a table that stands
-  standing-row : (f : ℕ → List ℕ → List ℕ → Answer)
-      → (test 20 (calls.bench_out b) or_else calls.if_posted (desk_of d).posting (λ N ds ps. test 21 (calls.is_none ((desk_of d).tables b)) or_else f N ds ps))
-      ≡ (standing_tests d b or_else f d.posting.n (matrix_of d.posting) (tree_of d.posting))
-  standing-row f = go (calls.bench_out b) refl d.posted
-    where
-      f' : Answer
-      f' = f d.posting.n (matrix_of d.posting) (tree_of d.posting)
+-- a bench's number has its table
+pub bench-named : (x : Posted) (b : ℕ) → calls.bench_out b ≡ false → (posted_of (Some x)).tables b ≡ table_of x.posting.edges (bench_table x b)
+bench-named x b h = go (eqb b 1) (eqb b 2) h
+  where
+    go : (y z : Bool) → not (y || z) ≡ false
+        → cond y (table_of x.posting.edges x.first) (cond z (table_of x.posting.edges x.second) calls.none) ≡ table_of x.posting.edges (cond y x.first x.second)
+    go true z e = refl
+    go false true e = refl
+    go false false e = absurd (true≢false e)
 
-      behind : calls.bench_out b ≡ false → (test 21 (calls.is_none ((desk_of d).tables b)) or_else f') ≡ (test 21 (not (bench_table d b).standing) or_else f')
-      behind h = ap (λ (x : Bool). test 21 x or_else f') (ap calls.is_none (bench-named h) ∙ none_is d.posting.edges (bench_table d b))
+none_is : (K : ℕ) (t : Option Table) → calls.is_none (table_of K t) ≡ is_none t
+none_is K None = refl
+none_is K (Some t) = refl
 
-      go : (out : Bool) → calls.bench_out b ≡ out → (posted : Bool)
-          → (test 20 out or_else calls.if_posted (posting_of posted d.posting) (λ N ds ps. test 21 (calls.is_none ((desk_of d).tables b)) or_else f N ds ps))
-          ≡ (((test 20 out or_else test 21 (not posted)) or_else test 21 (not (bench_table d b).standing)) or_else f')
-      go true h posted = refl
-      go false h true = behind h
-      go false h false = refl
+-- 20, 21 and what is asked behind them of a table that stands
+pub standing-row : (d : Desk) (b : ℕ) (f : ℕ → List ℕ → List ℕ → Answer) (g : Answer) → ((x : Posted) → d.posted ≡ Some x → f x.posting.n (matrix_of x.posting) (tree_of x.posting) ≡ g)
+    → (test 20 (calls.bench_out b) or_else calls.if_posted (desk_of d).posting (λ N ds ps. test 21 (calls.is_none ((desk_of d).tables b)) or_else f N ds ps)) ≡ (standing_tests d b or_else g)
+standing-row d b f g h = go d.posted h (calls.bench_out b) refl
+  where
+    go : (p : Option Posted) → ((x : Posted) → p ≡ Some x → f x.posting.n (matrix_of x.posting) (tree_of x.posting) ≡ g) → (out : Bool) → calls.bench_out b ≡ out
+        → (test 20 out or_else calls.if_posted (posted_of p).posting (λ N ds ps. test 21 (calls.is_none ((posted_of p).tables b)) or_else f N ds ps))
+        ≡ (((test 20 out or_else test 21 (is_none p)) or_else test 21 (is_none (named_table p b))) or_else g)
+    go p h true e = refl
+    go None h false e = refl
+    go (Some x) h false e = ap (λ (y : Bool). test 21 y or_else f x.posting.n (matrix_of x.posting) (tree_of x.posting)) (ap calls.is_none (bench-named x b e) ∙ none_is x.posting.edges (bench_table x b))
+        ∙ ap (λ (a : Answer). test 21 (is_none (bench_table x b)) or_else a) (h x refl)
 
-  pub report-asked : (size : ℕ) → calls.answer (desk_of d) (calls.report b size) ≡ (standing_tests d b or_else test 15 (buffer_out size (length (tree_of d.posting))))
-  report-asked size = standing-row (λ N ds ps. test 15 (buffer_out size (length ps)))
+-- the buffer's test of a report, where something is posted
+abbrev pub buffer_tests : Option Posted → ℕ → Answer
+buffer_tests None size = pass
+buffer_tests (Some x) size = test 15 (buffer_out size (length (tree_of x.posting)))
 
-  or_pass : (a : Answer) → (a or_else pass) ≡ a
-  or_pass pass = refl
-  or_pass (fault k p) = refl
+pub report-asked : (d : Desk) (b size : ℕ) → calls.answer (desk_of d) (calls.report b size) ≡ (standing_tests d b or_else buffer_tests d.posted size)
+report-asked d b size = standing-row d b (λ N ds ps. test 15 (buffer_out size (length ps))) (buffer_tests d.posted size) (λ x e. sym (ap (λ (p : Option Posted). buffer_tests p size) e))
 
-  pub withdraw-asked : calls.answer (desk_of d) (calls.withdraw b) ≡ standing_tests d b
-  withdraw-asked = go (calls.bench_out b) d.posted ∙ standing-row (λ N ds ps. pass) ∙ or_pass (standing_tests d b)
-    where
-      t : Answer
-      t = test 21 (calls.is_none ((desk_of d).tables b))
+or_pass : (a : Answer) → (a or_else pass) ≡ a
+or_pass pass = refl
+or_pass (fault k p) = refl
 
-      go : (out posted : Bool) → (test 20 out or_else calls.if_posted (posting_of posted d.posting) (λ N ds ps. t)) ≡ (test 20 out or_else calls.if_posted (posting_of posted d.posting) (λ N ds ps. t or_else pass))
-      go true posted = refl
-      go false true = sym (or_pass t)
-      go false false = refl
+pub withdraw-asked : (d : Desk) (b : ℕ) → calls.answer (desk_of d) (calls.withdraw b) ≡ standing_tests d b
+withdraw-asked d b = go (calls.bench_out b) (desk_of d).posting ∙ standing-row d b (λ N ds ps. pass) pass (λ x e. refl) ∙ or_pass (standing_tests d b)
+  where
+    t : Answer
+    t = test 21 (calls.is_none ((desk_of d).tables b))
+
+    go : (out : Bool) (p : calls.Posting) → (test 20 out or_else calls.if_posted p (λ N ds ps. t)) ≡ (test 20 out or_else calls.if_posted p (λ N ds ps. t or_else pass))
+    go true p = refl
+    go false calls.nothing = refl
+    go false (calls.matrix_tree N ds ps) = sym (or_pass t)
 
 -- what tests that pass tell
-yes_of : (x : Bool) → not x ≡ false → x ≡ true
-yes_of true h = refl
-yes_of false h = absurd (true≢false h)
+pub bench-passed : (d : Desk) (b : ℕ) → bench_tests d b ≡ pass → calls.bench_out b ≡ false
+bench-passed d b e = test-pass 20 (calls.bench_out b) (or_else_pass (test 20 (calls.bench_out b)) (test 21 (is_none d.posted)) e).0
 
-pub bench-passed : (d : Desk) (b : ℕ) → bench_tests d b ≡ pass → (calls.bench_out b ≡ false) × (d.posted ≡ true)
-bench-passed d b e = let (x, y) = or_else_pass (test 20 (calls.bench_out b)) (test 21 (not d.posted)) e in
-    (test-pass 20 (calls.bench_out b) x, yes_of d.posted (test-pass 21 (not d.posted) y))
+pub standing-passed : (d : Desk) (b : ℕ) → standing_tests d b ≡ pass → calls.bench_out b ≡ false
+standing-passed d b e = bench-passed d b (or_else_pass (bench_tests d b) (test 21 (is_none (named_table d.posted b))) e).0
 
-pub standing-passed : (d : Desk) (b : ℕ) → standing_tests d b ≡ pass → (calls.bench_out b ≡ false) × (d.posted ≡ true) × ((bench_table d b).standing ≡ true)
-standing-passed d b e = let (x, y) = or_else_pass (bench_tests d b) (test 21 (not (bench_table d b).standing)) e in
-    let (out, up) = bench-passed d b x in (out, up, yes_of (bench_table d b).standing (test-pass 21 (not (bench_table d b).standing) y))
+-- ---- what is held
+pub posted-held : (d : Desk) (x : Posted) → Held d → d.posted ≡ Some x → PostedHeld x
+posted-held d x h e = subst (λ (p : Option Posted). IfSome p (λ y. PostedHeld y)) e h
 
--- ---- tables
-pub bench-held : (d : Desk) (b : ℕ) → Held d → BenchHeld d.posted d.posting (bench_table d b)
-bench-held d b h = go (eqb b 1)
+pub table-held : (x : Posted) (b : ℕ) (t : Table) → PostedHeld x → bench_table x b ≡ Some t → TableHeld x.posting t
+table-held x b t h e = subst (λ (o : Option Table). IfSome o (λ u. TableHeld x.posting u)) e (go (eqb b 1))
   where
-    go : (x : Bool) → BenchHeld d.posted d.posting (cond x d.first d.second)
+    go : (q : Bool) → IfSome (cond q x.first x.second) (λ u. TableHeld x.posting u)
     go true = h.first
     go false = h.second
 
-pub blank-held : (posted : Bool) (p : Posting) (t : Bench) → Blank t → BenchHeld posted p t
-blank-held posted p t b = record {
-  room = ap length b.numerators ∙ length-table max_edges (λ _. pos 0);
-  behind = λ v _. ap (λ (l : List ℤ). get_or l v (pos 0)) b.numerators ∙ get_or_table_const max_edges (pos 0) v;
-  none = λ _. b;
-  up = λ e. absurd (true≢false (sym e ∙ b.standing));
-  stands = λ e. absurd (true≢false (sym e ∙ b.standing));
-}
-
-pub blank_none : (K : ℕ) (t : Bench) → Blank t → table_of K t ≡ calls.none
-blank_none K t b = ap (λ (x : Bool). cond x (calls.lengths t.d (numerators_of K t)) calls.none) b.standing
-
-pub put-held : (d : Desk) (b : ℕ) (t : Bench) → Held d → BenchHeld d.posted d.posting t → Held (with_table d b t)
-put-held d b t h g = record { posting = h.posting; first = one (eqb b 1); second = two (eqb b 1) }
+pub put-held : (x : Posted) (b : ℕ) (t : Option Table) → PostedHeld x → IfSome t (λ u. TableHeld x.posting u) → Held (with_table x b t)
+put-held x b t h g = record { posting = h.posting; first = one (eqb b 1); second = two (eqb b 1) }
   where
-    one : (x : Bool) → BenchHeld d.posted d.posting (cond x t d.first)
+    one : (q : Bool) → IfSome (cond q t x.first) (λ u. TableHeld x.posting u)
     one true = g
     one false = h.first
 
-    two : (x : Bool) → BenchHeld d.posted d.posting (cond x d.second t)
+    two : (q : Bool) → IfSome (cond q x.second t) (λ u. TableHeld x.posting u)
     two true = h.second
     two false = g
 
@@ -164,33 +157,36 @@ which-bench b h = go (eqb b 1) (eqb b 2) refl refl h
     go false true e f g = inr (eqb-true b 2 f)
     go false false e f g = absurd (true≢false g)
 
-module _ (d : Desk) (t : Bench) where
-  abbrev named : Bench → calls.Table
-  named u = table_of d.posting.edges u
+module _ (x : Posted) (t : Option Table) where
+  abbrev named : Option Table → calls.Table
+  named u = table_of x.posting.edges u
 
-  first-put : (x : ℕ) → of_benches (named t) (named d.second) x ≡ cond (eqb x 1) (named t) ((desk_of d).tables x)
-  first-put x = go (eqb x 1)
+  abbrev before : calls.Desk
+  before = posted_of (Some x)
+
+  first-put : (k : ℕ) → of_benches (named t) (named x.second) k ≡ cond (eqb k 1) (named t) (before.tables k)
+  first-put k = go (eqb k 1)
     where
-      go : (q : Bool) → cond q (named t) (cond (eqb x 2) (named d.second) calls.none) ≡ cond q (named t) (cond q (named d.first) (cond (eqb x 2) (named d.second) calls.none))
+      go : (q : Bool) → cond q (named t) (cond (eqb k 2) (named x.second) calls.none) ≡ cond q (named t) (cond q (named x.first) (cond (eqb k 2) (named x.second) calls.none))
       go true = refl
       go false = refl
 
-  second-put : (x : ℕ) → of_benches (named d.first) (named t) x ≡ cond (eqb x 2) (named t) ((desk_of d).tables x)
-  second-put x = by_cases (ℕ_discrete x 1)
-      (λ e. let z : x ≢ 2 = λ f. absurd (omega (arith, e, f)) in rw (eq-eqb x 1 e, ne_eqb x 2 z))
-      (λ e. rw (ne_eqb x 1 e) (go (eqb x 2)))
+  second-put : (k : ℕ) → of_benches (named x.first) (named t) k ≡ cond (eqb k 2) (named t) (before.tables k)
+  second-put k = by_cases (ℕ_discrete k 1)
+      (λ e. let z : k ≢ 2 = λ f. absurd (omega (arith, e, f)) in rw (eq-eqb k 1 e, ne_eqb k 2 z))
+      (λ e. rw (ne_eqb k 1 e) (go (eqb k 2)))
     where
-      go : (q : Bool) → cond q (named t) calls.none ≡ cond q (named t) (cond q (named d.second) calls.none)
+      go : (q : Bool) → cond q (named t) calls.none ≡ cond q (named t) (cond q (named x.second) calls.none)
       go true = refl
       go false = refl
 
   Put : ℕ → Type 0
-  Put b = desk_of (with_table d b t) ≡ calls.put b (named t) (desk_of d)
+  Put b = desk_of (with_table x b t) ≡ calls.put b (named t) before
 
-  of-tables : (f g : ℕ → calls.Table) → ((x : ℕ) → f x ≡ g x) → ◌≡◌ {A = calls.Desk} (record { posting = (desk_of d).posting; tables = f }) (record { posting = (desk_of d).posting; tables = g })
-  of-tables f g h = ap (λ (k : ℕ → calls.Table). record { posting = (desk_of d).posting; tables = k }) (fun_ext h)
+  of-tables : (f g : ℕ → calls.Table) → ((k : ℕ) → f k ≡ g k) → ◌≡◌ {A = calls.Desk} (record { posting = before.posting; tables = f }) (record { posting = before.posting; tables = g })
+  of-tables f g h = ap (λ (k : ℕ → calls.Table). record { posting = before.posting; tables = k }) (fun_ext h)
 
-  pub put-desk : (b : ℕ) → calls.bench_out b ≡ false → desk_of (with_table d b t) ≡ calls.put b (named t) (desk_of d)
+  pub put-desk : (b : ℕ) → calls.bench_out b ≡ false → desk_of (with_table x b t) ≡ calls.put b (named t) before
   unfolding Put
   put-desk b h = ⊎_elim (λ e. subst Put (sym e) (of-tables _ _ first-put)) (λ e. subst Put (sym e) (of-tables _ _ second-put)) (which-bench b h)
 
@@ -200,39 +196,8 @@ none_both true y = refl
 none_both false true = refl
 none_both false false = refl
 
-module _ (p : Posting) (r : Desk) (a : IsAnew p r) (h : PostingHeld true p) where
-  pub anew-desk : desk_of r ≡ calls.anew (posting_of true p)
-  anew-desk = ap₂ (λ (x : calls.Posting) (f : ℕ → calls.Table). record { posting = x; tables = f })
-      (ap₂ posting_of a.posted a.posting)
-      (fun_ext (λ x. ap₂ (λ (s t : calls.Table). of_benches s t x) (blank_none r.posting.edges r.first a.first) (blank_none r.posting.edges r.second a.second) ∙ none_both (eqb x 1) (eqb x 2)))
+pub anew-desk : (p : Posting) → desk_of (anew p) ≡ calls.anew (posting_of p)
+anew-desk p = ap (λ (f : ℕ → calls.Table). record { posting = posting_of p; tables = f }) (fun_ext (λ x. none_both (eqb x 1) (eqb x 2)))
 
-  pub anew-held : Held r
-  anew-held = record {
-    posting = subst (λ (q : Posting). PostingHeld r.posted q) (sym a.posting) (subst (λ (x : Bool). PostingHeld x p) (sym a.posted) h);
-    first = blank-held r.posted r.posting r.first a.first;
-    second = blank-held r.posted r.posting r.second a.second;
-  }
-
--- ---- the empty desk
-module _ (d : Desk) (posted : d.posted ≡ false) (u : Unposted d.posting) (first : Blank d.first) (second : Blank d.second)
-    (distances : d.posting.distances ≡ table max_pairs (λ _. 0)) (parents : d.posting.parents ≡ table max_edges (λ _. 0)) where
-  pub is-empty : IsEmpty d
-  is-empty = record {
-    desk = ap₂ (λ (x : calls.Posting) (f : ℕ → calls.Table). record { posting = x; tables = f })
-        (ap (λ (x : Bool). posting_of x d.posting) posted)
-        (fun_ext (λ x. ap₂ (λ (s t : calls.Table). of_benches s t x) (blank_none d.posting.edges d.first first) (blank_none d.posting.edges d.second second) ∙ none_both (eqb x 1) (eqb x 2)));
-    held = record {
-      posting = record {
-        few-pairs = omega (arith, u.pairs);
-        few-edges = omega (arith, u.edges);
-        room-pairs = ap length distances ∙ length-table max_pairs (λ _. 0);
-        room-edges = ap length parents ∙ length-table max_edges (λ _. 0);
-        behind-pairs = λ k _. ap (λ (l : List ℕ). get_or l k 0) distances ∙ get_or_table_const max_pairs 0 k;
-        behind-edges = λ k _. ap (λ (l : List ℕ). get_or l k 0) parents ∙ get_or_table_const max_edges 0 k;
-        none = λ _. u;
-        beside = λ e. absurd (true≢false (sym e ∙ posted));
-      };
-      first = blank-held d.posted d.posting d.first first;
-      second = blank-held d.posted d.posting d.second second;
-    };
-  }
+pub anew-held : (p : Posting) → PostingHeld p → Held (anew p)
+anew-held p h = record { posting = h; first = tt; second = tt }

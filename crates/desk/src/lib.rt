@@ -4,16 +4,15 @@
 #![tactic(auto)]
 
 ghost use Rattle.std.specs.Prelude.{◌≡◌};
-ghost use Rattle.verdict.specs.Answer.{answer_of};
 ghost use Rattle.desk_theory.specs.Desk.{bench_out};
-ghost use Rattle.desk.specs.Held.{Blank, bench_table, with_table, bench_tests, standing_tests, IsEmpty, IsAnew};
+ghost use Rattle.desk.specs.Held.{bench_table, with_table, anew, PostedFor, StandsFor, IsEmpty};
 
 use matrix::Matrix;
 use tree::Tree;
-use verdict::{Place, Reason, Refusal, Verdict};
+use verdict::{Place, Reason, Refusal};
 
 // A matrix and a tree that passed together, each in the front of its table with zeros behind, and every edge's split sum and number of
-// measured pairs that it parts. Where nothing is posted, zeros.
+// measured pairs that it parts.
 #[derive(Clone, Copy)]
 pub struct Posting {
     pub n: u32,
@@ -25,79 +24,51 @@ pub struct Posting {
     pub counts: [i64; Tree::MAX_EDGES],
 }
 
-// A bench's table, in the front of its numerators with zeros behind; zeros where none stands.
+// A table that stands in a bench's name, in the front of its numerators with zeros behind.
 #[derive(Clone, Copy)]
-pub struct Bench {
-    pub standing: bool,
+pub struct Table {
     pub d: u32,
     pub numerators: [i64; Tree::MAX_EDGES],
 }
 
+// What is posted, and the table of each bench that has one.
+#[derive(Clone, Copy)]
+pub struct Posted {
+    pub posting: Posting,
+    pub first: Option<Table>,
+    pub second: Option<Table>,
+}
+
+// No table stands where nothing is posted.
 #[derive(Clone, Copy)]
 pub struct Desk {
-    pub posted: bool,
-    pub posting: Posting,
-    pub first: Bench,
-    pub second: Bench,
+    pub posted: Option<Posted>,
 }
 
-// The answer to a call, and the desk after it.
+// A table that stands, and what it stands on.
 #[derive(Clone, Copy)]
-pub struct Answered {
-    pub verdict: Verdict,
-    pub desk: Desk,
-}
-
-// No table.
-pub fn no_table() -> Bench
-    ensures { Blank result }
-{
-    Bench {
-        standing: false,
-        d: 0,
-        numerators: tree::edge_zeros(),
-    }
+pub struct Standing {
+    pub posted: Posted,
+    pub table: Table,
 }
 
 // A desk on which nothing is posted and nothing stands.
 pub fn empty() -> Desk
     ensures { IsEmpty result }
 {
-    Desk {
-        posted: false,
-        posting: Posting {
-            n: 0,
-            pairs: 0,
-            edges: 0,
-            distances: matrix::no_distances(),
-            parents: tree::no_parents(),
-            sums: tree::edge_zeros(),
-            counts: tree::edge_zeros(),
-        },
-        first: no_table(),
-        second: no_table(),
-    }
+    Desk { posted: None }
 }
 
 // Something posted anew: no table stands.
 pub fn anew(posting: Posting) -> Desk
-    ensures { IsAnew posting result }
+    ensures { result ≡ anew posting }
 {
     Desk {
-        posted: true,
-        posting,
-        first: no_table(),
-        second: no_table(),
-    }
-}
-
-// A refused call: the very desk.
-pub fn refused(desk: Desk, refusal: Refusal) -> Answered
-    ensures { (result.verdict ≡ Verdict.Refused refusal) × (result.desk ≡ desk) }
-{
-    Answered {
-        verdict: Verdict::Refused(refusal),
-        desk,
+        posted: Some(Posted {
+            posting,
+            first: None,
+            second: None,
+        }),
     }
 }
 
@@ -105,70 +76,56 @@ pub fn refused(desk: Desk, refusal: Refusal) -> Answered
 fn no_bench(bench: u32) -> bool
     ensures { result ≡ bench_out bench }
 {
-    if bench == 1 {
-        return false;
-    }
-    bench != 2
+    bench != 1 && bench != 2
 }
 
-// 20: a number that is no bench's; then 21 where nothing is posted.
-pub fn check_bench(desk: Desk, bench: u32) -> Verdict
-    ensures { answer_of result ≡ bench_tests desk bench }
+// What a bench's call is asked first: 20 where its number is no bench's, then 21 where nothing is posted; what is posted.
+pub fn posted_for(desk: Desk, bench: u32) -> Result<Posted, Refusal>
+    ensures { PostedFor desk bench result }
 {
     if no_bench(bench) {
-        return Verdict::Refused(Refusal {
+        return Err(Refusal {
             reason: Reason::Bench,
             place: Place::Nowhere,
         });
     }
-    if !desk.posted {
-        return Verdict::Refused(Refusal {
-            reason: Reason::Nothing,
-            place: Place::Nowhere,
-        });
-    }
-    Verdict::Accepted
+    desk.posted.ok_or(Refusal {
+        reason: Reason::Nothing,
+        place: Place::Nowhere,
+    })
 }
 
 // The table of bench 1, or of the other.
-pub fn table_of(desk: Desk, bench: u32) -> Bench
-    ensures { result ≡ bench_table desk bench }
+pub fn table_of(posted: Posted, bench: u32) -> Option<Table>
+    ensures { result ≡ bench_table posted bench }
 {
     if bench == 1 {
-        let first = desk.first;
-        return first;
+        return posted.first;
     }
-    let second = desk.second;
-    second
+    posted.second
 }
 
-// The same tests, then 21 where no table stands in the bench's name.
-pub fn check_standing(desk: Desk, bench: u32) -> Verdict
-    ensures { answer_of result ≡ standing_tests desk bench }
+// The same tests, then 21 where no table stands in the bench's name; the table.
+pub fn standing_for(desk: Desk, bench: u32) -> Result<Standing, Refusal>
+    ensures { StandsFor desk bench result }
 {
-    let asked = check_bench(desk, bench);
-    if let Verdict::Refused(refusal) = asked {
-        return Verdict::Refused(refusal);
-    }
-    let table = table_of(desk, bench);
-    if !table.standing {
-        return Verdict::Refused(Refusal {
-            reason: Reason::Nothing,
-            place: Place::Nowhere,
-        });
-    }
-    Verdict::Accepted
+    let posted = posted_for(desk, bench)?;
+    let table = table_of(posted, bench).ok_or(Refusal {
+        reason: Reason::Nothing,
+        place: Place::Nowhere,
+    })?;
+    Ok(Standing { posted, table })
 }
 
-// A table put in the place of bench 1's, or of the other's.
-pub fn with_table(desk: Desk, bench: u32, table: Bench) -> Desk
-    ensures { result ≡ with_table desk bench table }
+// A table, or none, put in the place of bench 1's, or of the other's.
+pub fn with_table(posted: Posted, bench: u32, table: Option<Table>) -> Desk
+    ensures { result ≡ with_table posted bench table }
 {
-    let mut next = desk;
+    let mut next = posted;
     if bench == 1 {
         next.first = table;
-        return next;
+    } else {
+        next.second = table;
     }
-    next.second = table;
-    next
+    Desk { posted: Some(next) }
 }

@@ -11,30 +11,32 @@ use Rattle.writing.specs.Text.{Wrote}
 use Rattle.answer_lines.specs.Texts.{by_answer}
 use Rattle.desk_theory.specs.Desk as calls
 use Rattle.desk_theory.specs.Promises.{PostedWell}
-use Rattle.desk_text.specs.Meaning.{Meaning, call}
+use Rattle.desk_text.specs.Meaning.{Meaning, wrong, call}
 use Rattle.desk.specs.declared.Desk.{Desk}
-use Rattle.desk.specs.declared.Answered.{Answered}
-use Rattle.desk.specs.Held.{posting_of, desk_of, Held, Steps}
+use Rattle.desk.specs.declared.Posted.{Posted}
+use Rattle.desk.specs.Held.{posted_of, desk_of, PostedHeld, Held, after, Steps}
+use Rattle.std.specs.Prelude.{Option, Some, None, IfSome, Result}
+use Rattle.verdict.specs.declared.Refusal.{Refusal}
 use Rattle.desk_posts.specs.declared.Post.{Post}
 use Rattle.desk_lines.specs.declared.Propose.{Propose}
 use Rattle.desk_lines.specs.declared.Line.{Line}
 use Rattle.desk_lines.specs.declared.Line.TheVariants.{Posting, Proposing}
-use Rattle.desk_lines.specs.Lines.{as_meaning, Within}
+use Rattle.desk_lines.specs.Lines.{as_meaning, Within, line_meaning}
 use Rattle.desk_answers.specs.Telling.{ok_line, text_on, after_on, Responds}
 use Rattle.desk_answers.specs.declared.Told.{Told}
 
 pub well : (d : Desk) → Held d → PostedWell (desk_of d).posting
-well d h = go d.posted refl
+well d h = go d.posted h
   where
-    go : (b : Bool) → d.posted ≡ b → PostedWell (posting_of b d.posting)
-    go true e = (h.posting.beside e).posted
-    go false e = tt
+    go : (p : Option Posted) → IfSome p (λ x. PostedHeld x) → PostedWell (posted_of p).posting
+    go None h = tt
+    go (Some x) h = h.posting.beside.posted
 
 -- ---- what a line is answered with
-pub steps_respond : (d : Desk) (c : calls.Call) (a : Answered) (before after : List ℕ) (r : Told) → Steps d c a
-    → (r.desk ≡ a.desk) × Wrote before after 0 (by_answer (answer_of a.verdict) ok_line) r.length → Responds d (call c) before after r
-steps_respond d c a before after r s w = record {
-  text = subst (λ (x : Answer). Wrote before after 0 (by_answer x ok_line) r.length) s.answer w.1;
+pub steps_respond : (d : Desk) (c : calls.Call) (a : Result Desk Refusal) (before page : List ℕ) (r : Told) → Steps d c a
+    → (r.desk ≡ after d a) × Wrote before page 0 (by_answer (answer_of a) ok_line) r.length → Responds d (call c) before page r
+steps_respond d c a before page r s w = record {
+  text = subst (λ (x : Answer). Wrote before page 0 (by_answer x ok_line) r.length) s.answer w.1;
   desk = ap desk_of w.0 ∙ s.desk;
   held = subst Held (sym w.0) s.held;
 }
@@ -48,13 +50,20 @@ pub desk-left : (d : Desk) (m : Meaning) (before after : List ℕ) (n : ℕ) →
 desk-left d m before after n h e w = record { text = w; desk = sym e; held = h }
 
 -- ---- what the code wrote
-module _ (ds ps : List ℕ) (ns : List ℤ) where
-  pub within-posting : (l : Line) (p : Post) → l ≡ Posting p → Within ds ps ns l → (p.pairs ≤ length ds) × (p.edges ≤ length ps)
-  within-posting l p e w = subst (Within ds ps ns) e w
+module _ (ds ps : List ℕ) (ns : List ℤ) (m : Option Line) where
+  module _ (l : Line) (is : m ≡ Some l) where
+    within-there : IfSome m (λ x. Within ds ps ns x) → Within ds ps ns l
+    within-there w = subst (λ (o : Option Line). IfSome o (λ x. Within ds ps ns x)) is w
 
-  pub within_proposing : (l : Line) (p : Propose) → l ≡ Proposing p → Within ds ps ns l → p.count ≤ length ns
-  within_proposing l p e w = subst (Within ds ps ns) e w
+    pub within-posting : (p : Post) → l ≡ Posting p → IfSome m (λ x. Within ds ps ns x) → (p.pairs ≤ length ds) × (p.edges ≤ length ps)
+    within-posting p e w = subst (Within ds ps ns) e (within-there w)
 
-  -- the answer to the line that the match told
-  pub told_as : (d : Desk) (l l' : Line) (before after : List ℕ) (r : Told) → l ≡ l' → Responds d (as_meaning ds ps ns l') before after r → Responds d (as_meaning ds ps ns l) before after r
-  told_as d l l' before after r e w = subst (λ (x : Line). Responds d (as_meaning ds ps ns x) before after r) (sym e) w
+    pub within_proposing : (p : Propose) → l ≡ Proposing p → IfSome m (λ x. Within ds ps ns x) → p.count ≤ length ns
+    within_proposing p e w = subst (Within ds ps ns) e (within-there w)
+
+    -- the answer to the line that the match told
+    pub told_as : (d : Desk) (l' : Line) (before page : List ℕ) (r : Told) → l ≡ l' → Responds d (as_meaning ds ps ns l') before page r → Responds d (line_meaning ds ps ns m) before page r
+    told_as d l' before page r e w = subst (λ (x : Option Line). Responds d (line_meaning ds ps ns x) before page r) (sym (is ∙ ap Some e)) w
+
+  pub told-wrong : (d : Desk) (before page : List ℕ) (r : Told) → m ≡ None → Responds d wrong before page r → Responds d (line_meaning ds ps ns m) before page r
+  told-wrong d before page r e w = subst (λ (x : Option Line). Responds d (line_meaning ds ps ns x) before page r) (sym e) w

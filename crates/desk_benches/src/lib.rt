@@ -8,14 +8,14 @@ ghost use Rattle.tree_theory.specs.Limits.{max_edges};
 ghost use Rattle.fit_theory.specs.Tests.{proposal_tests};
 ghost use Rattle.desk_theory.specs.Desk.{propose, withdraw};
 ghost use Rattle.desk.specs.Held.{matrix_of, tree_of, PostingHeld, Held, Steps};
-ghost use Rattle.desk_benches.specs.Tables.{Standing};
+ghost use Rattle.desk_benches.specs.Tables.{IsTable};
 
-use desk::{Answered, Bench, Desk, Posting};
-use verdict::{Rule, Verdict};
+use desk::{Desk, Posting, Table};
+use verdict::{Refusal, Rule, Verdict};
 
 // What lengths are asked beside what is posted: 11 to 14.
 fn judged(posting: Posting, d: u32, numerators: &[i64]) -> Verdict
-    requires { PostingHeld true posting }
+    requires { PostingHeld posting }
     ensures { answer_of result ≡ proposal_tests Rule.Plain posting.n (matrix_of posting) (tree_of posting) d numerators.now }
 {
     let distances = posting.distances;
@@ -32,49 +32,32 @@ fn judged(posting: Posting, d: u32, numerators: &[i64]) -> Verdict
     )
 }
 
-// A table that stands: its numerators, then zeros.
-fn standing(d: u32, numerators: &[i64]) -> Bench
+// A table of lengths: its numerators, then zeros.
+fn table(d: u32, numerators: &[i64]) -> Table
     requires { length numerators.now ≤ max_edges }
-    ensures { Standing d numerators.now result }
+    ensures { IsTable d numerators.now result }
 {
-    Bench {
-        standing: true,
+    Table {
         d,
         numerators: lengths::copied(numerators),
     }
 }
 
 // A bench proposes: 20, 21, 11 to 14, the first that applies. What is accepted takes the place of its earlier table.
-pub fn propose(desk: Desk, bench: u32, d: u32, numerators: &[i64]) -> Answered
+pub fn propose(desk: Desk, bench: u32, d: u32, numerators: &[i64]) -> Result<Desk, Refusal>
     requires { Held desk }
     ensures { Steps desk (propose bench d numerators.now) result }
 {
-    let asked = desk::check_bench(desk, bench);
-    if let Verdict::Refused(refusal) = asked {
-        return desk::refused(desk, refusal);
-    }
-    let posting = desk.posting;
-    let answer = judged(posting, d, numerators);
-    if let Verdict::Refused(refusal) = answer {
-        return desk::refused(desk, refusal);
-    }
-    Answered {
-        verdict: Verdict::Accepted,
-        desk: desk::with_table(desk, bench, standing(d, numerators)),
-    }
+    let posted = desk::posted_for(desk, bench)?;
+    judged(posted.posting, d, numerators)?;
+    Ok(desk::with_table(posted, bench, Some(table(d, numerators))))
 }
 
 // A bench takes its table down: 20, 21, the first that applies.
-pub fn withdraw(desk: Desk, bench: u32) -> Answered
+pub fn withdraw(desk: Desk, bench: u32) -> Result<Desk, Refusal>
     requires { Held desk }
     ensures { Steps desk (withdraw bench) result }
 {
-    let asked = desk::check_standing(desk, bench);
-    if let Verdict::Refused(refusal) = asked {
-        return desk::refused(desk, refusal);
-    }
-    Answered {
-        verdict: Verdict::Accepted,
-        desk: desk::with_table(desk, bench, desk::no_table()),
-    }
+    let standing = desk::standing_for(desk, bench)?;
+    Ok(desk::with_table(standing.posted, bench, None))
 }

@@ -8,37 +8,20 @@
 //     5  report a bench, a buffer of so many entries, at most 125
 #![tactic(auto)]
 
-ghost use Rattle.std.specs.Prelude.{◌≡◌, ◌+◌, ◌*◌, ◌≤◌, ◌<◌, length};
+ghost use Rattle.std.specs.Prelude.{◌≡◌, ◌+◌, ◌*◌, ◌≤◌, ◌<◌, length, IfOk, IfSome};
 ghost use Rattle.matrix.specs.Limits.{max_pairs};
 ghost use Rattle.tree_theory.specs.Limits.{max_edges};
 ghost use Rattle.lines.specs.Page.{page_size};
 ghost use Rattle.desk.specs.Held.{Held};
 
-use desk::{Answered, Desk};
+use desk::Desk;
 use matrix::Matrix;
 use sheet::SheetFit;
 use tree::Tree;
-use verdict::{Rule, Verdict};
+use verdict::{Refusal, Rule, Verdict};
 
 // The most bytes that are read, of all the calls together.
 const CALLS: usize = 524_288;
-
-// Zeros, room for that many bytes.
-fn room() -> [u8; CALLS]
-    ensures { CALLS ≡ length result }
-{
-    [0; CALLS]
-}
-
-// The lesser of two counts.
-fn least(a: usize, b: usize) -> usize
-    ensures { (result ≤ a) × (result ≤ b) }
-{
-    if a < b {
-        return a;
-    }
-    b
-}
 
 // How many bytes stand behind a call's head.
 fn behind(kind: u32, b: u32, c: u32) -> usize {
@@ -56,48 +39,45 @@ fn distances_of(rest: &[u8], count: usize) -> [u16; Matrix::MAX_PAIRS]
     requires { (count ≤ max_pairs) × (2 * count ≤ length rest.now) }
     ensures { max_pairs ≡ length result }
 {
-    let mut held = matrix::no_distances();
-    let mut k = 0;
-    while k < count {
+    let mut held: [u16; Matrix::MAX_PAIRS] = arrays::filled(0);
+    for k in 0..count {
         held[k] = endian::u16_at(rest, 2 * k);
-        k += 1;
     }
     held
 }
 
-fn posted(desk: Desk, n: u32, pairs: usize, rest: &[u8]) -> Answered
-    requires held { Held desk }
-    requires pairs_le_max_pairs { (pairs ≤ max_pairs) × (2 * pairs ≤ length rest.now) }
-    ensures { Held result.desk }
+fn posted(n: u32, pairs: usize, rest: &[u8]) -> Result<Desk, Refusal>
+    requires { (pairs ≤ max_pairs) × (2 * pairs ≤ length rest.now) }
+    ensures { IfOk result (λ d. Held d) }
 {
     let held = distances_of(rest, pairs);
     let start = 2 * pairs;
-    desk_posting::post(desk, n, &held[..pairs], &rest[start..])
+    desk_posting::post(n, &held[..pairs], &rest[start..])
 }
 
-fn proposed(desk: Desk, bench: u32, d: u32, count: usize, rest: &[u8]) -> Answered
+fn proposed(desk: Desk, bench: u32, d: u32, count: usize, rest: &[u8]) -> Result<Desk, Refusal>
     requires held { Held desk }
     requires count_le_max_edges { (count ≤ max_edges) × (8 * count ≤ length rest.now) }
-    ensures { Held result.desk }
+    ensures { IfOk result (λ d. Held d) }
 {
     let held = decoding::numerators(rest, 0, count);
     desk_benches::propose(desk, bench, d, &held[..count])
 }
 
 // A call that may change the desk.
-fn called(desk: Desk, kind: u32, a: u32, b: u32, c: u32, rest: &[u8]) -> Answered
+fn called(desk: Desk, kind: u32, a: u32, b: u32, c: u32, rest: &[u8]) -> Result<Desk, Refusal>
     requires { Held desk }
-    ensures { Held result.desk }
+    ensures { IfOk result (λ d. Held d) }
 {
     if kind == 1 {
-        let pairs = least(least(b as usize, Matrix::MAX_PAIRS), rest.len() / 2);
-        return posted(desk, a, pairs, rest);
+        let pairs = (b as usize).min(Matrix::MAX_PAIRS).min(rest.len() / 2);
+        return posted(a, pairs, rest);
     }
     if kind == 2 {
         return desk_posting::correct(desk, a, b, (c % 65536) as u16);
     }
     if kind == 3 {
-        let count = least(least(c as usize, Tree::MAX_EDGES), rest.len() / 8);
+        let count = (c as usize).min(Tree::MAX_EDGES).min(rest.len() / 8);
         return proposed(desk, a, b, count, rest);
     }
     desk_benches::withdraw(desk, a)
@@ -109,43 +89,42 @@ fn line_of(verdict: Verdict, text: &mut [u8]) -> usize
     ensures { (result ≤ length text.new) × (length text.new ≡ length text.old) }
 {
     match verdict {
-        Verdict::Accepted => writing::put_word(text, 0, b"ok\n"),
-        Verdict::Refused(refusal) => {
+        Ok(()) => writing::put_word(text, 0, b"ok\n"),
+        Err(refusal) => {
             let place = refusal.place;
-            lines::refused_line(text, 0, verdict::number(Verdict::Refused(refusal)), place)
+            lines::refused_line(text, 0, u32::from(refusal.reason), place)
         }
     }
 }
 
-// The report of a bench with a buffer of so many entries, or its refusal; whether it went out.
+// The report of a bench with a buffer of so many entries, and its two tables.
+fn report_of(desk: Desk, bench: u32, size: usize) -> Result<SheetFit, Refusal>
+    requires held { Held desk }
+    requires size_le_max_edges { size ≤ max_edges }
+    ensures { IfOk result (λ x. x.report.edges ≤ max_edges) }
+{
+    let standing = desk::standing_for(desk, bench)?;
+    let numerators = standing.table.numerators;
+    let mut rounded: [i64; Tree::MAX_EDGES] = arrays::filled(0);
+    let report = desk_report::report(desk, bench, &mut rounded[..size])?;
+    Ok(SheetFit {
+        report,
+        numerators,
+        rounded,
+    })
+}
+
+// The report, or its refusal; whether it went out.
 fn reported(rt: &(impl Print + Eprint), desk: Desk, bench: u32, size: usize) -> bool
     requires held { Held desk }
     requires size_le_max_edges { size ≤ max_edges }
 {
-    let mut rounded = tree::edge_zeros();
-    let report = desk_report::report(desk, bench, &mut rounded[..size]);
-    let table = desk::table_of(desk, bench);
-    let numerators = table.numerators;
-    let mut text = pages::page();
-    let end = answer_lines::report_text(
-        Rule::Plain,
-        SheetFit {
-            report,
-            numerators,
-            rounded,
-        },
-        &mut text,
-    );
+    let mut text: [u8; pages::PAGE] = arrays::filled(0);
+    let end = answer_lines::report_text(Rule::Plain, &report_of(desk, bench, size), &mut text);
     streams::put_out(rt, end, &text)
 }
 
-// The desk after a turn, and whether its answer went out.
-#[derive(Clone, Copy)]
-struct Turn {
-    desk: Desk,
-    written: bool,
-}
-
+// The desk after a turn, where its answer went out.
 fn turned(
     rt: &(impl Print + Eprint),
     desk: Desk,
@@ -154,57 +133,51 @@ fn turned(
     b: u32,
     c: u32,
     rest: &[u8],
-) -> Turn
+) -> Option<Desk>
     requires { Held desk }
-    ensures { Held result.desk }
+    ensures { IfSome result (λ d. Held d) }
 {
     if kind == 0 {
-        return Turn {
-            desk: desk::empty(),
-            written: true,
-        };
+        return Some(desk::empty());
     }
     if kind == 5 {
-        let written = reported(rt, desk, a, least(b as usize, Tree::MAX_EDGES));
-        return Turn { desk, written };
+        if !reported(rt, desk, a, (b as usize).min(Tree::MAX_EDGES)) {
+            return None;
+        }
+        return Some(desk);
     }
-    let after = called(desk, kind, a, b, c, rest);
-    let answer = after.verdict;
-    let next = after.desk;
-    let mut text = pages::page();
-    let end = line_of(answer, &mut text);
-    let written = streams::put_out(rt, end, &text);
-    Turn {
-        desk: next,
-        written,
+    let answer = called(desk, kind, a, b, c, rest);
+    let mut text: [u8; pages::PAGE] = arrays::filled(0);
+    let end = line_of(answer.and(Ok(())), &mut text);
+    if !streams::put_out(rt, end, &text) {
+        return None;
     }
+    Some(answer.unwrap_or(desk))
 }
 
 // Every whole call in turn, up to the first whose answer cannot be written.
 fn run(rt: &(impl Print + Eprint), s: &[u8]) {
     let mut desk = desk::empty();
     let mut at = 0;
+    // A call says where the next begins.
     while at + 16 <= s.len() {
         let kind = endian::u32_at(s, at);
         let a = endian::u32_at(s, at + 4);
         let b = endian::u32_at(s, at + 8);
         let c = endian::u32_at(s, at + 12);
         let start = at + 16;
-        let end = start + least(behind(kind, b, c), s.len() - start);
-        let turn = turned(rt, desk, kind, a, b, c, &s[start..end]);
-        if !turn.written {
+        let end = start + behind(kind, b, c).min(s.len() - start);
+        let Some(next) = turned(rt, desk, kind, a, b, c, &s[start..end]) else {
             return;
-        }
-        let next = turn.desk;
+        };
         desk = next;
         at = end;
     }
 }
 
 fn main(rt: HostRuntime) {
-    let mut space = room();
-    let taken = streams::take_in(&rt, &mut space);
-    if taken.whole {
-        run(&rt, &space[..taken.count]);
+    let mut space: [u8; CALLS] = arrays::filled(0);
+    if let Ok(count) = streams::take_in(&rt, &mut space) {
+        run(&rt, &space[..count]);
     }
 }

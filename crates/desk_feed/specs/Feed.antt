@@ -1,5 +1,5 @@
 -- A line in a buffer that is fed piece by piece: it ends at LF, and a CR right before LF belongs to its end.
-use Rattle.std.specs.Prelude.{◌≡◌, Bool, cond, not, ◌&&◌, List, ℕ, ◌+◌, ◌-◌, ◌≤◌, eqb, ltb, length, get_or, take, drop}
+use Rattle.std.specs.Prelude.{◌≡◌, Bool, cond, not, ◌&&◌, List, ℕ, ◌+◌, ◌-◌, ◌≤◌, eqb, ltb, length, get_or, take, drop, Option, is_some, IfSome}
 use Rattle.digits.specs.Digits.{run}
 use Rattle.desk_feed.specs.declared.Found.{Found}
 
@@ -15,14 +15,18 @@ feed_at s from = from + run in_line (drop from s)
 abbrev pub end_of : List ℕ → ℕ → ℕ → ℕ
 end_of s from at = cond (ltb from at && eqb (get_or s (at - 1) 0) 13) (at - 1) at
 
--- the line that begins at a place: whole where LF has come
-pub record LineFound (s : List ℕ) (from : ℕ) (r : Found) : Type 0 where
-  pub whole_is : r.whole ≡ ltb (feed_at s from) (length s)
-  pub end_is : r.end ≡ cond r.whole (end_of s from (feed_at s from)) (length s)
-  pub next-is : r.next ≡ cond r.whole (feed_at s from + 1) (length s)
-  pub begins : from ≤ r.end
-  pub ends : r.end ≤ r.next
-  pub within : r.next ≤ length s
+-- the line that begins at a place, whose end has come
+pub record IsLine (s : List ℕ) (from : ℕ) (l : Found) : Type 0 where
+  pub end_is : l.end ≡ end_of s from (feed_at s from)
+  pub next-is : l.next ≡ feed_at s from + 1
+  pub begins : from ≤ l.end
+  pub ends : l.end ≤ l.next
+  pub within : l.next ≤ length s
+
+-- it is there where LF has come
+pub record LineFound (s : List ℕ) (from : ℕ) (r : Option Found) : Type 0 where
+  pub whole_is : is_some r ≡ ltb (feed_at s from) (length s)
+  pub line : IfSome r (λ l. IsLine s from l)
 
 -- the bytes from one place to another moved to the front
 pub record Moved (before : List ℕ) (from to : ℕ) (after : List ℕ) (r : ℕ) : Type 0 where

@@ -11,14 +11,12 @@ fn feed_end(text: &[u8], at: usize) -> usize
     requires { at ≤ length text.now }
     ensures { (result ≡ at + run in_line (drop at text.now)) × (result ≤ length text.now) }
 {
-    let mut end = at;
-    while end < text.len() {
+    for end in at..text.len() {
         if text[end] == 10 {
             return end;
         }
-        end += 1;
     }
-    end
+    text.len()
 }
 
 // Where a line ends that begins at a place and has LF at another: a CR right before LF belongs to the line's end.
@@ -35,32 +33,26 @@ fn without_cr(text: &[u8], from: usize, at: usize) -> usize
     at
 }
 
-// A line: whether its end has come, where its bytes end, and where the next line begins.
+// A line whose end has come: where its bytes end, and where the next line begins.
 #[derive(Clone, Copy)]
 pub struct Found {
-    pub whole: bool,
     pub end: usize,
     pub next: usize,
 }
 
-// The line that begins at a place.
-pub fn line_at(text: &[u8], from: usize) -> Found
+// The line that begins at a place, once its end has come.
+pub fn line_at(text: &[u8], from: usize) -> Option<Found>
     requires { from ≤ length text.now }
     ensures { LineFound text.now from result }
 {
     let at = feed_end(text, from);
     if at == text.len() {
-        return Found {
-            whole: false,
-            end: at,
-            next: at,
-        };
+        return None;
     }
-    Found {
-        whole: true,
+    Some(Found {
         end: without_cr(text, from, at),
         next: at + 1,
-    }
+    })
 }
 
 // Moves the bytes from one place to another to the front; how many they are.
@@ -68,11 +60,6 @@ pub fn move_front(space: &mut [u8], from: usize, to: usize) -> usize
     requires { (from ≤ to) × (to ≤ length space.old) }
     ensures { Moved space.old from to space.new result }
 {
-    let count = to - from;
-    let mut k = 0;
-    while k < count {
-        space[k] = space[from + k];
-        k += 1;
-    }
-    count
+    space.copy_within(from..to, 0);
+    to - from
 }

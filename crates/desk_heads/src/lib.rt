@@ -11,10 +11,9 @@ pub const MAX_LINE: usize = 16384;
 pub const MAX_WORDS: usize = 8192;
 
 // What a line is by its first word.
-#[derive(Clone, Copy)]
+#[derive(Clone, Copy, PartialEq, Eq)]
 pub enum Kind {
     Silent,
-    Wrong,
     Post,
     Propose,
     Correct,
@@ -22,28 +21,29 @@ pub enum Kind {
     Show(View),
 }
 
-fn kind_of(word: &[u8]) -> Kind
+// The kind that a first word makes a line; none where no line begins with it.
+fn kind_of(word: &[u8]) -> Option<Kind>
     ensures { KindOf word.now result }
 {
     if digits::same(word, b"post") {
-        return Kind::Post;
+        return Some(Kind::Post);
     }
     if digits::same(word, b"propose") {
-        return Kind::Propose;
+        return Some(Kind::Propose);
     }
     if digits::same(word, b"correct") {
-        return Kind::Correct;
+        return Some(Kind::Correct);
     }
     if digits::same(word, b"withdraw") {
-        return Kind::Withdraw;
+        return Some(Kind::Withdraw);
     }
     if digits::same(word, b"report") {
-        return Kind::Show(View::Report);
+        return Some(Kind::Show(View::Report));
     }
     if digits::same(word, b"pairs") {
-        return Kind::Show(View::Pairs);
+        return Some(Kind::Show(View::Pairs));
     }
-    Kind::Wrong
+    None
 }
 
 // The kind of a line, and where its first word ends.
@@ -53,32 +53,27 @@ pub struct Head {
     pub end: usize,
 }
 
-pub fn head_of(line: &[u8]) -> Head
+// None where the line is too long or its first word is none of these.
+pub fn head_of(line: &[u8]) -> Option<Head>
     ensures { HeadRead line.now result }
 {
     if line.len() > MAX_LINE {
-        return Head {
-            kind: Kind::Wrong,
-            end: 0,
-        };
+        return None;
     }
-    if digits::byte_at(line, 0) == 35 {
-        return Head {
+    if digits::byte_at(line, 0) == b'#' {
+        return Some(Head {
             kind: Kind::Silent,
             end: 0,
-        };
+        });
     }
     let first = desk_words::word_at(line, 0);
-    let start = first.start;
     let end = first.end;
-    if start == end {
-        return Head {
+    if first.start == end {
+        return Some(Head {
             kind: Kind::Silent,
             end,
-        };
+        });
     }
-    Head {
-        kind: kind_of(&line[start..end]),
-        end,
-    }
+    let kind = kind_of(&line[first.start..end])?;
+    Some(Head { kind, end })
 }

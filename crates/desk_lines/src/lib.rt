@@ -33,10 +33,10 @@ pub struct Show {
     pub bench: u32,
 }
 
+// What a line is that has a form.
 #[derive(Clone, Copy)]
 pub enum Line {
     Silent,
-    Wrong,
     Posting(Post),
     Correcting(Correct),
     Proposing(Propose),
@@ -44,129 +44,83 @@ pub enum Line {
     Showing(Show),
 }
 
-// Behind "post".
+// Behind "post"; none where what stands there has no form, and so for the others.
 pub fn posting_line(
     line: &[u8],
     at: usize,
     numbers: &mut [u16],
     distances: &mut [u16],
     parents: &mut [u8],
-) -> Line
+) -> Option<Line>
     requires { (at ≤ length line.now) × (length line.now ≤ max_line) × (max_words ≤ length numbers.old) × (max_words ≤ length distances.old) × (max_words ≤ length parents.old) }
     ensures { (ns : List ℤ) → LineIs (post_in (words_at line.now at)) distances.new parents.new ns result }
 {
-    let post = desk_posts::post_line(line, at, numbers, distances, parents);
-    if !post.found {
-        return Line::Wrong;
-    }
-    Line::Posting(post)
+    let post = desk_posts::post_line(line, at, numbers, distances, parents)?;
+    Some(Line::Posting(post))
 }
 
 // Behind "propose".
-pub fn propose_line(line: &[u8], at: usize, numerators: &mut [i64]) -> Line
+pub fn propose_line(line: &[u8], at: usize, numerators: &mut [i64]) -> Option<Line>
     requires { (at ≤ length line.now) × (length line.now ≤ max_line) × (max_words ≤ length numerators.old) }
     ensures { (ds ps : List ℕ) → LineIs (propose_in (words_at line.now at)) ds ps numerators.new result }
 {
-    let bench = desk_words::number_at(line, at);
-    if !bench.found {
-        return Line::Wrong;
-    }
-    let d = desk_words::number_at(line, bench.end);
-    if !d.found {
-        return Line::Wrong;
-    }
+    let bench = desk_words::number_at(line, at)?;
+    let d = desk_words::number_at(line, bench.end)?;
     let taken = desk_words::numerators(line, d.end, numerators);
     if !desk_posts::over(line, taken.end) {
-        return Line::Wrong;
+        return None;
     }
-    Line::Proposing(Propose {
+    Some(Line::Proposing(Propose {
         bench: desk_posts::word(bench.value),
         d: desk_posts::word(d.value),
         count: taken.count,
-    })
+    }))
 }
 
 // Behind "correct".
-pub fn correct_line(line: &[u8], at: usize) -> Line
+pub fn correct_line(line: &[u8], at: usize) -> Option<Line>
     requires { at ≤ length line.now }
     ensures { (ds ps : List ℕ) (ns : List ℤ) → LineIs (correct_in (words_at line.now at)) ds ps ns result }
 {
-    let i = desk_words::number_at(line, at);
-    if !i.found {
-        return Line::Wrong;
-    }
-    let j = desk_words::number_at(line, i.end);
-    if !j.found {
-        return Line::Wrong;
-    }
-    let far = desk_words::number_at(line, j.end);
-    if !far.found {
-        return Line::Wrong;
-    }
+    let i = desk_words::number_at(line, at)?;
+    let j = desk_words::number_at(line, i.end)?;
+    let far = desk_words::number_at(line, j.end)?;
     if !desk_posts::over(line, far.end) {
-        return Line::Wrong;
+        return None;
     }
-    Line::Correcting(Correct {
+    Some(Line::Correcting(Correct {
         i: desk_posts::word(i.value),
         j: desk_posts::word(j.value),
         far: desk_words::field(far.value, 65535, 65534) as u16,
-    })
+    }))
 }
 
-// A bench alone: whether that is all that is left of the line, and the bench.
-#[derive(Clone, Copy)]
-struct Bench {
-    found: bool,
-    bench: u32,
-}
-
-// Behind "withdraw", "report" and "pairs".
-fn bench_of(line: &[u8], at: usize) -> Bench
+// The bench behind "withdraw", "report" and "pairs", where it is all that is left of the line.
+fn bench_of(line: &[u8], at: usize) -> Option<u32>
     requires { at ≤ length line.now }
     ensures { BenchRead (words_at line.now at) result }
 {
-    let bench = desk_words::number_at(line, at);
-    if !bench.found {
-        return Bench {
-            found: false,
-            bench: 0,
-        };
-    }
+    let bench = desk_words::number_at(line, at)?;
     if !desk_posts::over(line, bench.end) {
-        return Bench {
-            found: false,
-            bench: 0,
-        };
+        return None;
     }
-    Bench {
-        found: true,
-        bench: desk_posts::word(bench.value),
-    }
+    Some(desk_posts::word(bench.value))
 }
 
 // Behind "withdraw".
-pub fn withdraw_line(line: &[u8], at: usize) -> Line
+pub fn withdraw_line(line: &[u8], at: usize) -> Option<Line>
     requires { at ≤ length line.now }
     ensures { (ds ps : List ℕ) (ns : List ℤ) → LineIs (bench_in (λ b. call (withdraw b)) (words_at line.now at)) ds ps ns result }
 {
-    let read = bench_of(line, at);
-    if !read.found {
-        return Line::Wrong;
-    }
-    Line::Withdrawing(read.bench)
+    let bench = bench_of(line, at)?;
+    Some(Line::Withdrawing(bench))
 }
 
 // Behind "report" and "pairs".
-pub fn show_line(line: &[u8], at: usize, view: View) -> Line
+pub fn show_line(line: &[u8], at: usize, view: View) -> Option<Line>
     requires { at ≤ length line.now }
     ensures { (ds ps : List ℕ) (ns : List ℤ) → LineIs (bench_in (shows view) (words_at line.now at)) ds ps ns result }
 {
-    let read = bench_of(line, at);
-    if !read.found {
-        return Line::Wrong;
-    }
-    Line::Showing(Show {
-        view,
-        bench: read.bench,
-    })
+    let bench = bench_of(line, at)?;
+    Some(Line::Showing(Show { view, bench }))
 }

@@ -8,23 +8,21 @@ ghost use Rattle.desk_lines.specs.Lines.{LineIs};
 use desk_heads::Kind;
 use desk_lines::Line;
 
-// What a line means; its tables stand at the front of the lent ones.
+// What a line means; its tables stand at the front of the lent ones. None where it has no form.
 pub fn read_line(
     line: &[u8],
     numbers: &mut [u16],
     distances: &mut [u16],
     parents: &mut [u8],
     numerators: &mut [i64],
-) -> Line
+) -> Option<Line>
     requires { (max_words ≤ length numbers.old) × (max_words ≤ length distances.old) × (max_words ≤ length parents.old) × (max_words ≤ length numerators.old) }
     ensures { LineIs (meaning_of line.now) distances.new parents.new numerators.new result }
 {
-    let found = desk_heads::head_of(line);
-    let kind = found.kind;
-    let at = found.end;
-    match kind {
-        Kind::Silent => Line::Silent,
-        Kind::Wrong => Line::Wrong,
+    let head = desk_heads::head_of(line)?;
+    let at = head.end;
+    match head.kind {
+        Kind::Silent => Some(Line::Silent),
         Kind::Post => desk_lines::posting_line(line, at, numbers, distances, parents),
         Kind::Propose => desk_lines::propose_line(line, at, numerators),
         Kind::Correct => desk_lines::correct_line(line, at),

@@ -2,15 +2,13 @@
 // tables down where it passes: they were fitted to what was posted before.
 #![tactic(auto)]
 
-ghost use Rattle.std.specs.Prelude.{◌≡◌, true};
-ghost use Rattle.verdict.specs.Answer.{answer_of};
 ghost use Rattle.fit_theory.specs.Stands.{Posted};
 ghost use Rattle.desk_theory.specs.Desk.{post, correct};
 ghost use Rattle.desk.specs.Held.{PostingHeld, Held, Steps};
 ghost use Rattle.desk_posting.specs.Postings.{Keeps, Corrects};
 
-use desk::{Answered, Desk, Posting};
-use verdict::{Place, Reason, Refusal, Verdict};
+use desk::{Desk, Posting};
+use verdict::{Place, Reason, Refusal};
 
 // A matrix and a tree that pass, as a desk holds them: with their split sums and counts worked afresh.
 fn kept(n: u32, distances: &[u16], parents: &[u8]) -> Posting
@@ -31,31 +29,17 @@ fn kept(n: u32, distances: &[u16], parents: &[u8]) -> Posting
     }
 }
 
-// The house posts: 4, 6 to 10, 16, 26, the first that applies.
-pub fn post(desk: Desk, n: u32, distances: &[u16], parents: &[u8]) -> Answered
-    requires { Held desk }
-    ensures { Steps desk (post n distances.now parents.now) result }
+// The house posts, whatever the desk holds: 4, 6 to 10, 16, 26, the first that applies.
+pub fn post(n: u32, distances: &[u16], parents: &[u8]) -> Result<Desk, Refusal>
+    ensures { (desk : Desk) → Held desk → Steps desk (post n distances.now parents.now) result }
 {
-    let answer = posting::check_posting(n, distances, parents);
-    if let Verdict::Refused(refusal) = answer {
-        return desk::refused(desk, refusal);
-    }
-    Answered {
-        verdict: Verdict::Accepted,
-        desk: desk::anew(kept(n, distances, parents)),
-    }
+    posting::check_posting(n, distances, parents)?;
+    Ok(desk::anew(kept(n, distances, parents)))
 }
 
-// What a correction of a posting gets: its answer, and the posting after it.
-#[derive(Clone, Copy)]
-struct Corrected {
-    verdict: Verdict,
-    posting: Posting,
-}
-
-// 24, 7, 26, the first that applies; the sums and the counts move with the matrix, and a refusal changes nothing.
-fn after_correction(posting: Posting, i: u32, j: u32, far: u16) -> Corrected
-    requires { PostingHeld true posting }
+// The posting after a correction: 24, 7, 26, the first that applies; the sums and the counts move with the matrix.
+fn after_correction(posting: Posting, i: u32, j: u32, far: u16) -> Result<Posting, Refusal>
+    requires { PostingHeld posting }
     ensures { Corrects posting i j far result }
 {
     let mut next = posting;
@@ -63,50 +47,31 @@ fn after_correction(posting: Posting, i: u32, j: u32, far: u16) -> Corrected
     let parents = posting.parents;
     let mut sums = posting.sums;
     let mut counts = posting.counts;
-    let pairs = posting.pairs;
-    let edges = posting.edges;
-    let verdict = correcting::correct(
+    correcting::correct(
         posting.n,
-        &mut distances[..pairs],
-        &parents[..edges],
+        &mut distances[..posting.pairs],
+        &parents[..posting.edges],
         &mut sums,
         &mut counts,
         i,
         j,
         far,
-    );
+    )?;
     next.distances = distances;
     next.sums = sums;
     next.counts = counts;
-    Corrected {
-        verdict,
-        posting: next,
-    }
+    Ok(next)
 }
 
 // One distance corrected: 21, 24, 7, 26, the first that applies.
-pub fn correct(desk: Desk, i: u32, j: u32, far: u16) -> Answered
+pub fn correct(desk: Desk, i: u32, j: u32, far: u16) -> Result<Desk, Refusal>
     requires { Held desk }
     ensures { Steps desk (correct (record { i = i; j = j; far = far })) result }
 {
-    if !desk.posted {
-        return desk::refused(
-            desk,
-            Refusal {
-                reason: Reason::Nothing,
-                place: Place::Nowhere,
-            },
-        );
-    }
-    let posting = desk.posting;
-    let after = after_correction(posting, i, j, far);
-    let answer = after.verdict;
-    if let Verdict::Refused(refusal) = answer {
-        return desk::refused(desk, refusal);
-    }
-    let next = after.posting;
-    Answered {
-        verdict: Verdict::Accepted,
-        desk: desk::anew(next),
-    }
+    let posted = desk.posted.ok_or(Refusal {
+        reason: Reason::Nothing,
+        place: Place::Nowhere,
+    })?;
+    let next = after_correction(posted.posting, i, j, far)?;
+    Ok(desk::anew(next))
 }

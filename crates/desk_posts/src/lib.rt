@@ -5,7 +5,7 @@ ghost use Rattle.std.specs.Prelude.{◌≡◌, ◌≤◌, length};
 ghost use Rattle.desk_text.specs.Meaning.{max_line, max_words, no_more, post_in};
 ghost use Rattle.desk_text.specs.Fields.{cut_word};
 ghost use Rattle.desk_words.specs.Reads.{words_at};
-ghost use Rattle.desk_posts.specs.Posts.{FrontRead, BackRead, no_post, PostRead};
+ghost use Rattle.desk_posts.specs.Posts.{FrontRead, BackRead, PostRead};
 
 // The most bytes that a line may have without its end, and the most words that it can then have.
 pub const MAX_LINE: usize = 16384;
@@ -31,119 +31,72 @@ pub fn over(line: &[u8], at: usize) -> bool
     next.start == next.end
 }
 
-// What "N distances" came to: whether N is there, N, how many distances, and where they end.
+// "N distances": N, how many distances, and where they end.
 #[derive(Clone, Copy)]
 struct Front {
-    found: bool,
     n: u32,
     pairs: usize,
     end: usize,
 }
 
-// N and the distances from a place on; the distances at the front of their table, in the matrix's order.
-fn distances_of(line: &[u8], at: usize, numbers: &mut [u16], distances: &mut [u16]) -> Front
+// N and the distances from a place on, where N is there; the distances at the front of their table, in the matrix's order.
+fn distances_of(line: &[u8], at: usize, numbers: &mut [u16], distances: &mut [u16]) -> Option<Front>
     requires { (at ≤ length line.now) × (length line.now ≤ max_line) × (max_words ≤ length numbers.old) × (max_words ≤ length distances.old) }
     ensures { FrontRead line.now at distances.new result }
 {
-    let n = desk_words::number_at(line, at);
-    if !n.found {
-        return Front {
-            found: false,
-            n: 0,
-            pairs: 0,
-            end: at,
-        };
-    }
+    let n = desk_words::number_at(line, at)?;
     let strains = word(n.value);
     let taken = desk_words::numbers(line, n.end, 65535, 65534, numbers);
     desk_tables::lay_distances(strains, &numbers[..taken.count], distances);
-    Front {
-        found: true,
+    Some(Front {
         n: strains,
         pairs: taken.count,
         end: taken.end,
-    }
+    })
 }
 
-// What "/ parents" came to: whether that is all that is left of the line, and how many parents.
-#[derive(Clone, Copy)]
-struct Back {
-    found: bool,
-    edges: usize,
-}
-
-// The parents from a place on, at the front of their table.
-fn parents_of(line: &[u8], at: usize, numbers: &mut [u16], parents: &mut [u8]) -> Back
+// How many parents there are from a place on, behind a slash, where that is all that is left of the line; the parents at the front of
+// their table.
+fn parents_of(line: &[u8], at: usize, numbers: &mut [u16], parents: &mut [u8]) -> Option<usize>
     requires { (at ≤ length line.now) × (length line.now ≤ max_line) × (max_words ≤ length numbers.old) × (max_words ≤ length parents.old) }
     ensures { BackRead line.now at parents.new result }
 {
     let slash = desk_words::word_at(line, at);
-    let start = slash.start;
-    let end = slash.end;
-    if !digits::same(&line[start..end], b"/") {
-        return Back {
-            found: false,
-            edges: 0,
-        };
+    if !digits::same(&line[slash.start..slash.end], b"/") {
+        return None;
     }
-    let taken = desk_words::numbers(line, end, 255, 255, numbers);
+    let taken = desk_words::numbers(line, slash.end, 255, 255, numbers);
     if !over(line, taken.end) {
-        return Back {
-            found: false,
-            edges: 0,
-        };
+        return None;
     }
     desk_tables::lay_parents(&numbers[..taken.count], parents);
-    Back {
-        found: true,
-        edges: taken.count,
-    }
+    Some(taken.count)
 }
 
-// A posting that a line has: whether it is of the form, N, and how many distances and parents stand at the front of their tables.
+// A posting that a line has: N, and how many distances and parents stand at the front of their tables.
 #[derive(Clone, Copy)]
 pub struct Post {
-    pub found: bool,
     pub n: u32,
     pub pairs: usize,
     pub edges: usize,
 }
 
-// A line that is not of the form.
-fn no_post() -> Post
-    ensures { result ≡ no_post }
-{
-    Post {
-        found: false,
-        n: 0,
-        pairs: 0,
-        edges: 0,
-    }
-}
-
-// What stands behind "post", from a place on.
+// The posting that stands behind "post", from a place on; none where the line is not of the form.
 pub fn post_line(
     line: &[u8],
     at: usize,
     numbers: &mut [u16],
     distances: &mut [u16],
     parents: &mut [u8],
-) -> Post
+) -> Option<Post>
     requires { (at ≤ length line.now) × (length line.now ≤ max_line) × (max_words ≤ length numbers.old) × (max_words ≤ length distances.old) × (max_words ≤ length parents.old) }
     ensures { PostRead (post_in (words_at line.now at)) distances.new parents.new result }
 {
-    let front = distances_of(line, at, numbers, distances);
-    if !front.found {
-        return no_post();
-    }
-    let back = parents_of(line, front.end, numbers, parents);
-    if !back.found {
-        return no_post();
-    }
-    Post {
-        found: true,
+    let front = distances_of(line, at, numbers, distances)?;
+    let edges = parents_of(line, front.end, numbers, parents)?;
+    Some(Post {
         n: front.n,
         pairs: front.pairs,
-        edges: back.edges,
-    }
+        edges,
+    })
 }

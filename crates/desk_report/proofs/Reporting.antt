@@ -1,6 +1,6 @@
 -- A bench's report by its answer: the bench's tests, then the buffer's length, then the numbers of a table that stands.
-use mathlib.Core.Path.{◌≡◌, refl, sym, ◌∙◌, ap, subst}
-use mathlib.Core.Bool.{Bool, true, false, not}
+use mathlib.Core.Path.{◌≡◌, refl, sym, ◌∙◌, ap}
+use mathlib.Core.Bool.{Bool, not}
 use mathlib.Core.List.{List}
 use mathlib.Core.Logic.{◌≢◌}
 use Prim.Native.Nat.{ℕ, ◌≤◌}
@@ -9,71 +9,62 @@ use borrow.Author.Tests.{eq-eqb, ne_eqb}
 use lib.IntN.{ℤ}
 use lib.ListN.{length, length-take}
 use lib.Seq.{length-take-le}
-use Rattle.verdict.specs.Answer.{Answer, pass, fault, answer_of, refusal_of, test}
+use Rattle.std.specs.Prelude.{Option, Ok, Err}
+use Rattle.verdict.specs.Answer.{Answer, fault, refusal_of, test, ◌or_else◌}
 use Rattle.verdict.specs.declared.Place.TheVariants.{Nowhere}
 use Rattle.verdict.specs.declared.Refusal.{Refusal}
-use Rattle.verdict.specs.declared.Verdict.{Verdict}
-use Rattle.verdict.specs.declared.Verdict.TheVariants.{Accepted, Refused}
-use Rattle.verdict.specs.declared.Rule.TheVariants.{Plain}
-use Rattle.verdict.proofs.Answers.{refused-row, accepted-row, not_pass, passes}
-use Rattle.exact.proofs.Decide.{by_cases}
 use Rattle.tree_theory.specs.Limits.{max_edges}
 use Rattle.fit_theory.specs.Tests.{buffer_out}
 use Rattle.reporting.specs.declared.FitReport.{FitReport}
-use Rattle.reporting.specs.Answers.{Reported, Silent}
 use Rattle.desk_theory.specs.Desk as calls
-use Rattle.desk.specs.declared.Bench.{Bench}
+use Rattle.desk.specs.declared.Posted.{Posted}
 use Rattle.desk.specs.declared.Desk.{Desk}
-use Rattle.desk.specs.Held.{matrix_of, tree_of, numerators_of, desk_of, bench_table, standing_tests, PostingHeld, BenchHeld, Held}
-use Rattle.desk.proofs.Holding.{report-asked, standing-passed, bench-held}
-use Rattle.desk_report.specs.Reports.{DeskReport}
+use Rattle.desk.specs.declared.Standing.{Standing}
+use Rattle.desk.specs.Held.{tree_of, desk_of, PostingHeld, TableHeld, Held, StandsFor}
+use Rattle.desk.proofs.Holding.{buffer_tests, report-asked, posted-held, table-held}
+use Rattle.desk_report.specs.Reports.{OnPosting, DeskReport}
 
-module _ (d : Desk) (b : ℕ) (before : List ℤ) (v : Verdict) (g : answer_of v ≡ standing_tests d b) where
+module _ (d : Desk) (b : ℕ) (before : List ℤ) where
   abbrev asked : Answer
   asked = calls.answer (desk_of d) (calls.report b (length before))
 
-  abbrev buffer : Answer
-  buffer = test 15 (buffer_out (length before) (length (tree_of d.posting)))
+  -- the bench's tests refuse
+  pub bench-refused : (q : Refusal) → StandsFor d b (Err q) → DeskReport d b before before (Err q)
+  bench-refused q g = record {
+    answer = ap (λ (a : Answer). a or_else buffer_tests d.posted (length before)) g.answer ∙ sym (report-asked d b (length before));
+    reported = tt;
+    kept = refl;
+  }
 
-  -- a refusal: nothing is reported, and the buffer is as it was
-  silent-report : (q : Refusal) → refusal_of q ≡ asked → (x : FitReport) → (x.verdict ≡ Refused q) × Silent x → DeskReport d b before before x
-  silent-report q e x s = record { answer = ap answer_of s.0 ∙ e; reported = λ z. absurd (not_pass q (e ∙ z)); silent = λ _. s.1; kept = λ _. refl }
+  module _ (s : Standing) (g : StandsFor d b (Ok s)) (h : Held d) where
+    pub posting-held : PostingHeld s.posted.posting
+    posting-held = (posted-held d s.posted h g.standing.posted).posting
 
-  pub bench-refused : (q : Refusal) → v ≡ Refused q → (x : FitReport) → (x.verdict ≡ Refused q) × Silent x → DeskReport d b before before x
-  bench-refused q e = silent-report q (refused-row q v (standing_tests d b) buffer e g ∙ sym (report-asked d b (length before)))
+    pub its-table-held : TableHeld s.posted.posting s.table
+    its-table-held = table-held s.posted b s.table (posted-held d s.posted h g.standing.posted) g.standing.table
 
-  module _ (ok : v ≡ Accepted) (h : Held d) where
-    pub stands : (calls.bench_out b ≡ false) × (d.posted ≡ true) × ((bench_table d b).standing ≡ true)
-    stands = standing-passed d b (sym g ∙ ap answer_of ok)
+    edges : length (tree_of s.posted.posting) ≡ s.posted.posting.edges
+    edges = let p = posting-held in length-take-le s.posted.posting.edges s.posted.posting.parents (omega (arith, p.few-edges, p.room-edges))
 
-    pub posting-held : PostingHeld true d.posting
-    posting-held = subst (λ (x : Bool). PostingHeld x d.posting) stands.1 h.posting
+    rest : test 15 (buffer_out (length before) (length (tree_of s.posted.posting))) ≡ asked
+    rest = ap (λ (p : Option Posted). buffer_tests p (length before)) (sym g.standing.posted)
+        ∙ ap (λ (a : Answer). a or_else buffer_tests d.posted (length before)) g.answer ∙ sym (report-asked d b (length before))
 
-    pub table-held : BenchHeld true d.posting (bench_table d b)
-    table-held = subst (λ (x : Bool). BenchHeld x d.posting (bench_table d b)) stands.1 (bench-held d b h)
+    pub buffer-refused : (q : Refusal) → refusal_of q ≡ fault 15 Nowhere → length before ≢ s.posted.posting.edges → DeskReport d b before before (Err q)
+    buffer-refused q e n = record {
+      answer = e ∙ ap (λ (x : Bool). test 15 (not x)) (sym (ne_eqb (length before) (length (tree_of s.posted.posting)) (λ z. n (z ∙ edges)))) ∙ rest;
+      reported = tt;
+      kept = refl;
+    }
 
-    edges : length (tree_of d.posting) ≡ d.posting.edges
-    edges = length-take-le d.posting.edges d.posting.parents (omega (arith, h.posting.few-edges, h.posting.room-edges))
-
-    rest : buffer ≡ asked
-    rest = accepted-row v (standing_tests d b) buffer ok g ∙ sym (report-asked d b (length before))
-
-    pub buffer-refused : (q : Refusal) → refusal_of q ≡ fault 15 Nowhere → length before ≢ d.posting.edges → (x : FitReport) → (x.verdict ≡ Refused q) × Silent x → DeskReport d b before before x
-    buffer-refused q e n = silent-report q (e ∙ ap (λ (x : Bool). test 15 (not x)) (sym (ne_eqb (length before) (length (tree_of d.posting)) (λ z. n (z ∙ edges)))) ∙ rest)
-
-    pub fitted : (after : List ℤ) (x : FitReport) → length before ≡ d.posting.edges → x.verdict ≡ Accepted → (t : Bench) → t ≡ bench_table d b
-        → Reported Plain d.posting.n (matrix_of d.posting) (tree_of d.posting) t.d (numerators_of d.posting.edges t) after x → DeskReport d b before after x
-    fitted after x e a t i r =
-        let fine : pass ≡ asked = ap (λ (y : Bool). test 15 (not y)) (sym (eq-eqb (length before) (length (tree_of d.posting)) (e ∙ sym edges))) ∙ rest in
-        record {
-          answer = ap answer_of a ∙ fine;
-          reported = λ _. subst (λ (u : Bench). Reported Plain d.posting.n (matrix_of d.posting) (tree_of d.posting) u.d (numerators_of d.posting.edges u) after x) i r;
-          silent = λ n. absurd (n (sym fine));
-          kept = λ n. absurd (n (sym fine));
-        }
+    pub fitted : (after : List ℤ) (x : FitReport) → length before ≡ s.posted.posting.edges → OnPosting s.posted.posting s.table after x → DeskReport d b before after (Ok x)
+    fitted after x e r = record {
+      answer = ap (λ (y : Bool). test 15 (not y)) (sym (eq-eqb (length before) (length (tree_of s.posted.posting)) (e ∙ sym edges))) ∙ rest;
+      reported = (s, g.standing, r);
+      kept = tt;
+    }
 
 -- a report has at most as many edges as a tree may have
-pub few-edges : (d : Desk) (b : ℕ) (before after : List ℤ) (x : FitReport) → Held d → DeskReport d b before after x → x.edges ≤ max_edges
-few-edges d b before after x h r = by_cases (passes (calls.answer (desk_of d) (calls.report b (length before))))
-    (λ e. omega (arith, (r.reported e).edges, length-take d.posting.edges d.posting.parents, h.posting.few-edges))
-    (λ n. omega (arith, (r.silent n).edges))
+pub few-edges : (d : Desk) (b : ℕ) (before after : List ℤ) (x : FitReport) → Held d → DeskReport d b before after (Ok x) → x.edges ≤ max_edges
+few-edges d b before after x h r = let (s, is, q) = r.reported in
+    omega (arith, q.edges, length-take s.posted.posting.edges s.posted.posting.parents, (posted-held d s.posted h is.posted).posting.few-edges)

@@ -11,25 +11,31 @@ use lib.ListN.{length, get_or, take}
 use lib.Seq.{length-take-le, get_or-take}
 use Rattle.exact.specs.Table.{table, entry_of}
 use Rattle.exact.proofs.Fill.{length-table, get_or_table}
-use Rattle.verdict.specs.Answer.{Answer, pass, fault, answer_of, test, ◌or_else◌}
+use Rattle.verdict.specs.Answer.{Answer, pass, fault, refusal_of, test, ◌or_else◌}
 use Rattle.verdict.specs.declared.Rule.TheVariants.{Plain}
 use Rattle.tree_theory.specs.Limits.{max_edges}
 use Rattle.fit_theory.specs.Quantities.{rounded_of}
 use Rattle.writing.specs.Text.{Wrote}
 use Rattle.lines.specs.Lines.{fit_text}
 use Rattle.reporting.specs.declared.FitReport.{FitReport}
-use Rattle.answer_lines.specs.Texts.{by_answer, report_text}
+use Rattle.answer_lines.specs.Texts.{by_answer}
 use Rattle.answer_lines.proofs.Fits.{report-is}
 use Rattle.desk_theory.specs.Desk as calls
 use Rattle.desk_text.specs.declared.View.{View}
 use Rattle.desk_text.specs.declared.View.TheVariants as views
+use Rattle.desk.specs.declared.Table.{Table}
+use Rattle.desk.specs.declared.Posted.{Posted}
 use Rattle.desk.specs.declared.Desk.{Desk}
-use Rattle.desk.specs.declared.Bench.{Bench}
-use Rattle.desk.specs.Held.{matrix_of, tree_of, numerators_of, posting_of, desk_of, bench_table, standing_tests, Held}
-use Rattle.desk.proofs.Holding.{report-asked, standing-passed, bench-named}
-use Rattle.desk_report.specs.Reports.{DeskReport}
-use Rattle.desk_pairs.specs.Pairs.{pairs_on}
-use Rattle.desk_shows.specs.Shows.{edges_of, view_text, table_text, show_text}
+use Rattle.desk.specs.declared.Standing.{Standing}
+use Rattle.desk.specs.Held.{matrix_of, tree_of, numerators_of, posting_of, table_of, posted_of, desk_of, bench_table, standing_tests, PostedHeld, Held, IsStanding, StandsFor}
+use Rattle.desk.proofs.Holding.{buffer_tests, report-asked, standing-passed, bench-named, posted-held}
+use Rattle.desk_report.specs.Reports.{OnPosting, DeskReport}
+use Rattle.desk_report.proofs.Reporting.{few-edges}
+use Rattle.desk_pairs.specs.Pairs.{its_pairs, shown_pairs, pairs_on}
+use Rattle.desk_shows.specs.Shows.{edges_of, table_text, show_text, ShownReport}
+use Rattle.std.specs.Prelude.{Option, Some, None, Ok, Err}
+use Rattle.verdict.specs.declared.Refusal.{Refusal}
+use Rattle.verdict.proofs.Answers.{not_pass}
 
 get_d_front : (xs ys : List ℤ) (v : ℕ) → v < length xs → get_or (xs ++ ys) v (pos 0) ≡ get_or xs v (pos 0)
 get_d_front [] ys v h = absurd (omega arith)
@@ -40,70 +46,100 @@ pub by-answer_cong : (a b : Answer) (s t : List ℕ) → a ≡ b → (b ≡ pass
 by-answer_cong a pass s t e h = ap (λ (x : Answer). by_answer x s) e ∙ h refl
 by-answer_cong a (fault k p) s t e h = ap (λ (x : Answer). by_answer x s) e
 
+some : {A : Type 0} {x y : A} → Some x ≡ Some y → x ≡ y
+some {A} {x} {y} e = ap (λ (o : Option A). at o) e
+  where
+    at : Option A → A
+    at None = x
+    at (Some z) = z
+
 or_pass : (a : Answer) → (a or_else pass) ≡ a
 or_pass pass = refl
 or_pass (fault k p) = refl
 
-module _ (d : Desk) (h : Held d) where
-  edges-size : length (tree_of d.posting) ≡ d.posting.edges
-  edges-size = length-take-le d.posting.edges d.posting.parents (omega (arith, h.posting.few-edges, h.posting.room-edges))
+-- the buffer that a bench gets is of the size that the posted tree asks for
+whole-buffer : (p : Option Posted) → buffer_tests p (edges_of (posted_of p).posting) ≡ pass
+whole-buffer None = refl
+whole-buffer (Some x) = ap (λ (q : Bool). test 15 (not q)) (eq-eqb (length (tree_of x.posting)) (length (tree_of x.posting)) refl)
 
-  -- the buffer is of the size that the posted tree asks for
-  edges_are : edges_of (desk_of d).posting ≡ d.posting.edges
-  edges_are = go d.posted refl
+module _ (d : Desk) (b : ℕ) where
+  -- so a bench is asked 20 and 21 alone
+  asked : calls.answer (desk_of d) (calls.report b (edges_of (desk_of d).posting)) ≡ standing_tests d b
+  asked = report-asked d b (edges_of (desk_of d).posting) ∙ ap (λ (a : Answer). standing_tests d b or_else a) (whole-buffer d.posted) ∙ or_pass (standing_tests d b)
+
+  shown-is : (v : View) (a : Answer) (text : List ℕ) → a ≡ standing_tests d b → (standing_tests d b ≡ pass → text ≡ table_text v (desk_of d).posting ((desk_of d).tables b)) → by_answer a text ≡ show_text (desk_of d) v b
+  unfolding show_text
+  shown-is v a text e f = by-answer_cong a (calls.answer (desk_of d) (calls.report b (edges_of (desk_of d).posting))) text _ (e ∙ sym asked) (λ p. f (sym asked ∙ p))
+
+  -- ---- the pairs
+  pairs_are : standing_tests d b ≡ pass → shown_pairs d.posted b ≡ table_text views.Pairs (desk_of d).posting ((desk_of d).tables b)
+  pairs_are e = go d.posted
     where
-      go : (b : Bool) → d.posted ≡ b → edges_of (posting_of b d.posting) ≡ d.posting.edges
-      go true e = edges-size
-      go false e = sym (h.posting.none e).edges
+      its : (x : Posted) (t : Option Table) → its_pairs x.posting t ≡ table_text views.Pairs (posting_of x.posting) (table_of x.posting.edges t)
+      its x None = refl
+      its x (Some t) = refl
 
-  -- room for the rounded lengths at the front of a table of zeros
-  pub front-size : (zeros : List ℤ) → zeros ≡ table max_edges (λ _. pos 0) → d.posting.edges ≡ length (take d.posting.edges zeros)
-  front-size zeros e = sym (length-take-le d.posting.edges zeros (let n = ap length e ∙ length-table max_edges (λ _. pos 0) in omega (arith, n, h.posting.few-edges)))
+      go : (p : Option Posted) → shown_pairs p b ≡ table_text views.Pairs (posted_of p).posting ((posted_of p).tables b)
+      go None = refl
+      go (Some x) = its x (bench_table x b) ∙ sym (ap (table_text views.Pairs (posting_of x.posting)) (bench-named x b (standing-passed d b e)))
 
-  module _ (b : ℕ) where
-    -- so a bench is asked 20 and 21 alone
-    asked : calls.answer (desk_of d) (calls.report b (edges_of (desk_of d).posting)) ≡ standing_tests d b
-    asked = report-asked d b (edges_of (desk_of d).posting)
-        ∙ ap (λ (q : Bool). standing_tests d b or_else test 15 (not q)) (eq-eqb (edges_of (desk_of d).posting) (length (tree_of d.posting)) (edges_are ∙ sym edges-size))
-        ∙ or_pass (standing_tests d b)
+  pub pairs-shown : (before after : List ℕ) (next : ℕ) → Wrote before after 0 (pairs_on d b) next → Wrote before after 0 (show_text (desk_of d) views.Pairs b) next
+  pairs-shown before after next w = subst (λ (s : List ℕ). Wrote before after 0 s next) (shown-is views.Pairs (standing_tests d b) (shown_pairs d.posted b) refl pairs_are) w
 
-    -- the text of the bench's table, as the desk's value holds it
-    abbrev text_of : View → Bench → List ℕ
-    text_of v t = view_text v d.posting.n (matrix_of d.posting) (tree_of d.posting) t.d (numerators_of d.posting.edges t)
+  -- ---- the report
+  pub none-stands : (q : Refusal) → StandsFor d b (Err q) → ShownReport d b (Err q)
+  none-stands q g = record { few = tt; text = shown-is views.Report (refusal_of q) [] g.answer (λ e. absurd (not_pass q (g.answer ∙ e))) }
 
-    table-text : (v : View) → standing_tests d b ≡ pass → text_of v (bench_table d b) ≡ table_text v (desk_of d).posting ((desk_of d).tables b)
-    table-text v e = let (out, up, stands) = standing-passed d b e in
-        sym (ap₂ (table_text v) (ap (λ (q : Bool). posting_of q d.posting) up)
-        (bench-named d b out ∙ ap (λ (q : Bool). cond q (calls.lengths (bench_table d b).d (numerators_of d.posting.edges (bench_table d b))) calls.none) stands))
+  module _ (h : Held d) (s : Standing) (g : StandsFor d b (Ok s)) where
+    held-there : PostedHeld s.posted
+    held-there = posted-held d s.posted h g.standing.posted
 
-    shown-is : (v : View) (a : Answer) (text : List ℕ) → a ≡ standing_tests d b → (standing_tests d b ≡ pass → text ≡ text_of v (bench_table d b)) → by_answer a text ≡ show_text (desk_of d) v b
-    unfolding show_text
-    shown-is v a text e f = by-answer_cong a (calls.answer (desk_of d) (calls.report b (edges_of (desk_of d).posting))) text _ (e ∙ sym asked)
-        (λ p. let q = sym asked ∙ p in f q ∙ table-text v q)
+    edges-size : length (tree_of s.posted.posting) ≡ s.posted.posting.edges
+    edges-size = let p = held-there.posting in length-take-le s.posted.posting.edges s.posted.posting.parents (omega (arith, p.few-edges, p.room-edges))
 
-    -- ---- what the code wrote
-    pub pairs-shown : (before after : List ℕ) (next : ℕ) → Wrote before after 0 (pairs_on d b) next → Wrote before after 0 (show_text (desk_of d) views.Pairs b) next
-    pairs-shown before after next w = subst (λ (s : List ℕ). Wrote before after 0 s next) (shown-is views.Pairs (standing_tests d b) (text_of views.Pairs (bench_table d b)) refl (λ _. refl)) w
+    edges_are : edges_of (desk_of d).posting ≡ s.posted.posting.edges
+    edges_are = ap (λ (p : Option Posted). edges_of (posted_of p).posting) g.standing.posted ∙ edges-size
 
-    pub report-shown : (zeros after back : List ℤ) (x : FitReport) (t : Bench) (before' after' : List ℕ) (next : ℕ) → zeros ≡ table max_edges (λ _. pos 0)
-        → DeskReport d b (take d.posting.edges zeros) after x → t ≡ bench_table d b
-        → Wrote before' after' 0 (report_text Plain (record { report = x; numerators = t.numerators; rounded = after ++ back })) next
-        → Wrote before' after' 0 (show_text (desk_of d) views.Report b) next
-    report-shown zeros after back x t before' after' next blank r e w = subst (λ (s : List ℕ). Wrote before' after' 0 s next)
-        (ap (λ (u : Bench). report_text Plain (record { report = x; numerators = u.numerators; rounded = after ++ back })) e
-        ∙ shown-is views.Report (answer_of x.verdict) _ (r.answer ∙ size ∙ asked) (λ q. text-is (size ∙ asked ∙ q))) w
-      where
-        size : calls.answer (desk_of d) (calls.report b (length (take d.posting.edges zeros))) ≡ calls.answer (desk_of d) (calls.report b (edges_of (desk_of d).posting))
-        size = ap (λ (n : ℕ). calls.answer (desk_of d) (calls.report b n)) (sym (front-size zeros blank) ∙ sym edges_are)
+    -- room for the rounded lengths at the front of a table of zeros
+    pub front-size : (zeros : List ℤ) → zeros ≡ table max_edges (λ _. pos 0) → s.posted.posting.edges ≡ length (take s.posted.posting.edges zeros)
+    front-size zeros e = sym (length-take-le s.posted.posting.edges zeros (let n = ap length e ∙ length-table max_edges (λ _. pos 0) in omega (arith, n, held-there.posting.few-edges)))
 
-        text-is : calls.answer (desk_of d) (calls.report b (length (take d.posting.edges zeros))) ≡ pass
-            → fit_text Plain x.strains x.edges x.denominator (entry_of (bench_table d b).numerators) (entry_of (after ++ back)) x.length x.f x.r x.h x.mean ≡ text_of views.Report (bench_table d b)
-        text-is q = let p = r.reported q in
-            report-is Plain d.posting.n (matrix_of d.posting) (tree_of d.posting) (bench_table d b).d (numerators_of d.posting.edges (bench_table d b)) after x p
-            (entry_of (bench_table d b).numerators) (entry_of (after ++ back))
-            (λ v l. sym (get_or-take d.posting.edges (bench_table d b).numerators v (pos 0) (omega (arith, l, edges-size))))
-            (λ v l. get_d_front after back v (let n = ap length p.rounded ∙ length-table (length (tree_of d.posting)) (rounded_of (bench_table d b).d (numerators_of d.posting.edges (bench_table d b))) in omega (arith, l, n))
-            ∙ ap (λ (y : List ℤ). entry_of y v) p.rounded ∙ get_or_table (length (tree_of d.posting)) (rounded_of (bench_table d b).d (numerators_of d.posting.edges (bench_table d b))) (pos 0) v l)
+    module _ (zeros after : List ℤ) (blank : zeros ≡ table max_edges (λ _. pos 0)) where
+      size : calls.answer (desk_of d) (calls.report b (length (take s.posted.posting.edges zeros))) ≡ calls.answer (desk_of d) (calls.report b (edges_of (desk_of d).posting))
+      size = ap (λ (n : ℕ). calls.answer (desk_of d) (calls.report b n)) (sym (front-size zeros blank) ∙ sym edges_are)
+
+      pub none-reported : (q : Refusal) → DeskReport d b (take s.posted.posting.edges zeros) after (Err q) → ShownReport d b (Err q)
+      none-reported q r = record { few = tt; text = let e = r.answer ∙ size ∙ asked in shown-is views.Report (refusal_of q) [] e (λ p. absurd (not_pass q (e ∙ p))) }
+
+      pub report-shown : (back : List ℤ) (x : FitReport) → DeskReport d b (take s.posted.posting.edges zeros) after (Ok x)
+          → ShownReport d b (Ok (record { report = x; numerators = s.table.numerators; rounded = after ++ back }))
+      report-shown back x r = record {
+        few = few-edges d b (take s.posted.posting.edges zeros) after x h r;
+        text = shown-is views.Report pass _ (r.answer ∙ size ∙ asked) (λ e. text-is e r.reported);
+      }
+        where
+          named : standing_tests d b ≡ pass → table_text views.Report (posting_of s.posted.posting) (table_of s.posted.posting.edges (Some s.table)) ≡ table_text views.Report (desk_of d).posting ((desk_of d).tables b)
+          named e = ap (λ (t : Option Table). table_text views.Report (posting_of s.posted.posting) (table_of s.posted.posting.edges t)) (sym g.standing.table)
+              ∙ sym (ap (table_text views.Report (posting_of s.posted.posting)) (bench-named s.posted b (standing-passed d b e)))
+              ∙ sym (ap (λ (p : Option Posted). table_text views.Report (posted_of p).posting ((posted_of p).tables b)) g.standing.posted)
+
+          same-table : (t : Standing) → IsStanding d b t → (t.posted ≡ s.posted) × (t.table ≡ s.table)
+          same-table t i = let e : t.posted ≡ s.posted = some (sym i.posted ∙ g.standing.posted) in
+              (e, some (sym i.table ∙ ap (λ (y : Posted). bench_table y b) e ∙ g.standing.table))
+
+          of-table : OnPosting s.posted.posting s.table after x
+              → fit_text Plain x.strains x.edges x.denominator (entry_of s.table.numerators) (entry_of (after ++ back)) x.length x.f x.r x.h x.mean ≡ table_text views.Report (posting_of s.posted.posting) (table_of s.posted.posting.edges (Some s.table))
+          of-table p = let y = s.posted.posting in let ns = numerators_of y.edges s.table in
+              report-is Plain y.n (matrix_of y) (tree_of y) s.table.d ns after x p
+              (entry_of s.table.numerators) (entry_of (after ++ back))
+              (λ v l. sym (get_or-take y.edges s.table.numerators v (pos 0) (omega (arith, l, edges-size))))
+              (λ v l. get_d_front after back v (let n = ap length p.rounded ∙ length-table (length (tree_of y)) (rounded_of s.table.d ns) in omega (arith, l, n))
+              ∙ ap (λ (z : List ℤ). entry_of z v) p.rounded ∙ get_or_table (length (tree_of y)) (rounded_of s.table.d ns) (pos 0) v l)
+
+          text-is : standing_tests d b ≡ pass → (t : Standing) × IsStanding d b t × OnPosting t.posted.posting t.table after x
+              → fit_text Plain x.strains x.edges x.denominator (entry_of s.table.numerators) (entry_of (after ++ back)) x.length x.f x.r x.h x.mean ≡ table_text views.Report (desk_of d).posting ((desk_of d).tables b)
+          text-is e (t, i, q) = let (same, table_is) = same-table t i in
+              of-table (subst (λ (y : Table). OnPosting s.posted.posting y after x) table_is (subst (λ (y : Posted). OnPosting y.posting t.table after x) same q)) ∙ named e
 
 -- what the match told was asked for
 pub shown_as : (d : calls.Desk) (v v' : View) (b : ℕ) (before after : List ℕ) (next : ℕ) → v ≡ v' → Wrote before after 0 (show_text d v' b) next → Wrote before after 0 (show_text d v b) next

@@ -1,10 +1,15 @@
 -- What a bench is shown of its table (RULES, The desk's lines): its report or its pairs, on what is posted now, or what the report is refused for.
-use Rattle.std.specs.Prelude.{List, [], ℕ, ℤ, length}
+use Rattle.std.specs.Prelude.{◌≡◌, List, [], ℕ, ◌≤◌, ℤ, length, Result, IfOk}
 use Rattle.verdict.specs.declared.Rule.TheVariants.{Plain}
 use Rattle.writing.specs.Text.{decimal}
-use Rattle.answer_lines.specs.Texts.{by_answer, fit_of}
+use Rattle.answer_lines.specs.Texts.{by_answer, fit_of, report_text}
 use Rattle.pair_lines.specs.Lines.{pairs_text}
+use Rattle.verdict.specs.declared.Refusal.{Refusal}
+use Rattle.tree_theory.specs.Limits.{max_edges}
+use Rattle.sheet.specs.declared.SheetFit.{SheetFit}
 use Rattle.desk_theory.specs.Desk as calls
+use Rattle.desk.specs.declared.Desk.{Desk}
+use Rattle.desk.specs.Held.{desk_of}
 use Rattle.desk_text.specs.declared.View.{View}
 use Rattle.desk_text.specs.declared.View.TheVariants as views
 
@@ -27,3 +32,8 @@ table_text v (calls.matrix_tree N ds ps) (calls.lengths D ns) = view_text v N ds
 -- what a bench is shown: that of its table, or the refusal of its report
 unfoldable pub show_text : calls.Desk → View → ℕ → List ℕ
 show_text d v b = by_answer (calls.answer d (calls.report b (edges_of d.posting))) (table_text v d.posting (d.tables b))
+
+-- the report of a bench's table with its two tables, or the refusal: its print is what the bench is shown
+pub record ShownReport (d : Desk) (b : ℕ) (r : Result SheetFit Refusal) : Type 0 where
+  pub few : IfOk r (λ x. x.report.edges ≤ max_edges)
+  pub text : report_text Plain r ≡ show_text (desk_of d) views.Report b

@@ -78,13 +78,6 @@ module _ (n : ℕ) (rows : List ℕ) where
   source_within k i j from true o h ei ej e = let b = from-within k i j h ei ej (sym o) in omega (arith, b, e)
   source_within k i j from false o h ei ej e = omega (arith, h, e)
 
--- the pair behind another, by whether a strain is left before j
-pub pair-more : (i j : ℕ) → i + 1 < j → (i + 1 ≡ (behind (i, j)).0) × (j ≡ (behind (i, j)).1)
-pair-more i j h = let e = lt-ltb (i + 1) j h in (rw e, rw e)
-
-pub pair-last : (i j : ℕ) → j ≤ i + 1 → (0 ≡ (behind (i, j)).0) × (j + 1 ≡ (behind (i, j)).1)
-pair-last i j h = let e = le-ltb (i + 1) j h in (rw e, rw e)
-
 -- the pairs come no faster than the places
 pub pair-low : (k : ℕ) → ((pair_at k).0 ≤ k) × ((pair_at k).1 ≤ k + 1)
 unfolding pair_at

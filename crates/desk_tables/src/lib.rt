@@ -3,29 +3,11 @@
 
 ghost use Rattle.std.specs.Prelude.{◌≡◌, true, cond, ◌&&◌, ℕ, ◌+◌, ◌≤◌, ◌<◌, eqb, leb, length, get_or};
 ghost use Rattle.matrix.specs.Limits.{max_strains};
-ghost use Rattle.matrix.specs.Place.{pair_count, behind, row_place};
+ghost use Rattle.matrix.specs.Place.{pair_count, row_place};
 ghost use Rattle.desk_text.specs.Meaning.{by_strains};
 ghost use Rattle.desk_tables.specs.Laid.{Front};
 
 use matrix::Matrix;
-
-// A pair of strains.
-#[derive(Clone, Copy)]
-struct Pair {
-    i: usize,
-    j: usize,
-}
-
-// The pair behind another in the matrix's order.
-fn next_pair(i: usize, j: usize) -> Pair
-    requires { (i < 65536) × (j < 65536) }
-    ensures { (result.i ≡ (behind (i, j)).0) × (result.j ≡ (behind (i, j)).1) }
-{
-    if i + 1 < j {
-        return Pair { i: i + 1, j };
-    }
-    Pair { i: 0, j: j + 1 }
-}
 
 // Whether so many distances are those of n strains that a matrix can have.
 fn is_matrix(n: u32, count: usize) -> bool
@@ -54,15 +36,13 @@ pub fn lay_distances(n: u32, rows: &[u16], distances: &mut [u16])
     ensures { Front (by_strains n rows.now) distances.old distances.new }
 {
     let ordered = is_matrix(n, rows.len());
-    let mut k = 0;
     let mut i = 0;
     let mut j = 1;
-    while k < rows.len() {
+    for k in 0..rows.len() {
         distances[k] = rows[source(ordered, n as usize, i, j, k)];
-        let next = next_pair(i, j);
+        let next = pairs::next_pair(i, j);
         i = next.i;
         j = next.j;
-        k += 1;
     }
 }
 
@@ -72,9 +52,7 @@ pub fn lay_parents(numbers: &[u16], parents: &mut [u8])
     requires by_index { (k : ℕ) → get_or numbers.now k 0 < 256 }
     ensures { Front numbers.now parents.old parents.new }
 {
-    let mut k = 0;
-    while k < numbers.len() {
-        parents[k] = numbers[k] as u8;
-        k += 1;
+    for (k, number) in numbers.iter().enumerate() {
+        parents[k] = *number as u8;
     }
 }

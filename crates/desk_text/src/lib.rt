@@ -2,7 +2,7 @@
 // bench may ask to be shown of its table, its report or its pairs.
 #![tactic(auto)]
 
-#[derive(Clone, Copy)]
+#[derive(Clone, Copy, PartialEq, Eq)]
 pub enum View {
     Report,
     Pairs,

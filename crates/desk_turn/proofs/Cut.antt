@@ -26,7 +26,8 @@ use Rattle.desk_posts.proofs.Lining.{leading-short}
 use Rattle.desk.specs.declared.Desk.{Desk}
 use Rattle.desk.specs.Held.{desk_of, Held}
 use Rattle.desk_lines.specs.declared.Line.{Line}
-use Rattle.desk_lines.specs.Lines.{as_meaning, LineIs}
+use Rattle.desk_lines.specs.Lines.{line_meaning, LineIs}
+use Rattle.std.specs.Prelude.{Option}
 use Rattle.desk_answers.specs.Telling.{ok_line, text_on, after_on, Responds}
 use Rattle.desk_shows.specs.Shows.{edges_of, table_text, show_text}
 use Rattle.desk_shows.proofs.Showing.{by-answer_cong}
@@ -108,8 +109,8 @@ module _ (d : calls.Desk) (w : PostedWell d.posting) where
   after-cut (call c) f = cut_step d w c f
   after-cut (shows v b) f = refl
 
-pub line-told : (d : Desk) (s ds ps : List ℕ) (ns : List ℤ) (l : Line) (before after : List ℕ) (r : Told) → Held d → LineIs (meaning_of s) ds ps ns l
-    → Responds d (as_meaning ds ps ns l) before after r → Responds d (meaning_of s) before after r
+pub line-told : (d : Desk) (s ds ps : List ℕ) (ns : List ℤ) (l : Option Line) (before after : List ℕ) (r : Told) → Held d → LineIs (meaning_of s) ds ps ns l
+    → Responds d (line_meaning ds ps ns l) before after r → Responds d (meaning_of s) before after r
 line-told d s ds ps ns l before after r h i a = let f = few_meaning s in record {
   text = subst (λ (t : List ℕ). Wrote before after 0 t r.length) (ap (text_on (desk_of d)) i.means ∙ text-cut (desk_of d) (well d h) (meaning_of s) f) a.text;
   desk = a.desk ∙ ap (after_on (desk_of d)) i.means ∙ after-cut (desk_of d) (well d h) (meaning_of s) f;

@@ -2,7 +2,7 @@
 -- (`words-behind`), and there is none exactly where no letter stands there (`none_left`). Then what is read as a number: of the letters at a
 -- place (`no-digits`, `word-goes-on`, `all_digits`), of a word (`number_read`), of a word that may have a minus (`minus-read`, `plain-read`).
 use mathlib.Core.Path.{◌≡◌, refl, sym, ◌∙◌, ap, ap₂, subst}
-use mathlib.Core.Bool.{Bool, true, false, cond, true≢false}
+use mathlib.Core.Bool.{Bool, true, false, true≢false}
 use mathlib.Core.List.{List, [], ◌∷◌}
 use Prim.Native.Nat.{ℕ, zero, suc, ◌+◌, ◌-◌, ◌≤◌, ◌<◌}
 use native.Mathlib.Numerals.{add-one}
@@ -22,9 +22,9 @@ use Rattle.desk_text.specs.Meaning.{word_at, no_more}
 use Rattle.desk_text.specs.Fields.{cut_to, cut_magnitude, cut_numerator}
 use Rattle.desk_text.proofs.Cutting.{cut_high}
 use Rattle.desk_text.proofs.Splitting.{words-past, past-over, over_none, letters-more, words-first, digits-end-word, number-none, number-some}
-use Rattle.desk_words.specs.Reads.{words_at, start_at, letters_end, end_at, letters_at, WordRead, DigitsRead, NumberRead, with_sign, signed_from, SignedRead}
-use Rattle.desk_words.specs.declared.Number.{Number}
-use Rattle.desk_words.specs.declared.Signed.{Signed}
+use Rattle.desk_words.specs.Reads.{words_at, start_at, end_at, letters_at, ReadAs, DigitsRead, NumberRead, with_sign, signed, SignedRead}
+use Rattle.desk_words.specs.declared.Parsed.{Parsed}
+use Rattle.std.specs.Prelude.{Option, Some, None}
 
 module _ (s : List ℕ) (at : ℕ) where
   -- the line behind the blanks
@@ -89,8 +89,8 @@ module _ (s : List ℕ) (at : ℕ) where
 
 -- ---- the letters at a place as a number
 module _ (s : List ℕ) (at end : ℕ) (h : at ≤ length s) (e : end ≡ at + run is_digit (drop at s)) (w : end ≤ length s) where
-  pub no-digits : end ≡ at → DigitsRead s at (record { found = false; value = 0; end = at })
-  no-digits z = record { found-is = sym (number-none (drop at s) (omega (arith, e, z))); value-is = refl; end_is = refl; within = h }
+  pub no-digits : end ≡ at → DigitsRead s at None
+  no-digits z = record { found-is = sym (number-none (drop at s) (omega (arith, e, z))); read = tt }
 
   behind-digits : drop (run is_digit (drop at s)) (drop at s) ≡ drop end s
   behind-digits = drop-drop (run is_digit (drop at s)) at s ∙ ap (λ (k : ℕ). drop k s) (sym e)
@@ -102,28 +102,25 @@ module _ (s : List ℕ) (at end : ℕ) (h : at ≤ length s) (e : end ≡ at + r
       more zero q = absurd (z (omega (arith, e, q)))
       more (suc n) q = omega (arith, q)
 
-  pub word-goes-on : (end ≡ at → ⊥) → word_over (drop end s) ≡ false → DigitsRead s at (record { found = false; value = 0; end = at })
-  word-goes-on z o = record { found-is = sym (seen z ∙ o); value-is = refl; end_is = refl; within = h }
+  pub word-goes-on : (end ≡ at → ⊥) → word_over (drop end s) ≡ false → DigitsRead s at None
+  word-goes-on z o = record { found-is = sym (seen z ∙ o); read = tt }
 
-  pub all_digits : (end ≡ at → ⊥) → word_over (drop end s) ≡ true → (n : ℕ) → n ≡ at_most (number_from 0 (slice at end s)) → DigitsRead s at (record { found = true; value = n; end = end })
+  pub all_digits : (end ≡ at → ⊥) → word_over (drop end s) ≡ true → (n : ℕ) → n ≡ at_most (number_from 0 (slice at end s)) → DigitsRead s at (Some (record { value = n; end = end }))
   unfolding value_of
   all_digits z o n q =
       let m : run is_digit (drop at s) ≡ run is_letter (drop at s) = digits-end-word (drop at s) (ap word_over behind-digits ∙ o) in
       let k : end - at ≡ run is_letter (drop at s) = omega (arith, e, m) in record {
         found-is = sym (seen z ∙ o);
-        value-is = q ∙ ap (λ (l : List ℕ). at_most (number_from 0 l)) (slice_is s at end ∙ ap (λ (j : ℕ). take j (drop at s)) k);
-        end_is = omega (arith, e, m);
-        within = w;
+        read = record {
+          value-is = q ∙ ap (λ (l : List ℕ). at_most (number_from 0 l)) (slice_is s at end ∙ ap (λ (j : ℕ). take j (drop at s)) k);
+          end_is = omega (arith, e, m);
+          within = w;
+        };
       }
 
 -- ---- a word
-pub number_read : (s : List ℕ) (at : ℕ) (r : Number) → DigitsRead s (start_at s at) r → NumberRead s at r
-number_read s at r d = record {
-  found-is = d.found-is ∙ ap is_number (first_word s at);
-  value-is = d.value-is ∙ ap (λ (w : List ℕ). cond r.found (at_most (value_of w)) 0) (first_word s at);
-  end_is = d.end_is;
-  within = d.within;
-}
+pub number_read : (s : List ℕ) (at : ℕ) (r : Option (Parsed ℕ)) → DigitsRead s (start_at s at) r → NumberRead s at r
+number_read s at r d = subst (λ (w : List ℕ). ReadAs s (is_number w) (at_most (value_of w)) (end_at s at) r) (first_word s at) d
 
 -- the place behind a word that is of a kind no empty word is of
 pub word-further : (p : List ℕ → Bool) (s : List ℕ) (at : ℕ) → p [] ≡ false → p (word_at 0 (words_at s at)) ≡ true → at < end_at s at
@@ -148,15 +145,20 @@ cut_twice most above x h = by_cases (dec_lt 1000000000000000 x)
     (λ l. ap (cut_to most above) (high_cut x l) ∙ cut_high most above 1000000000000000 h ∙ sym (cut_high most above x (omega arith)))
     (λ n. ap (cut_to most above) (low-cut x (omega arith)))
 
-signed-of : (minus : Bool) (start end : ℕ) (r : Number) (z : ℤ) (w : List ℕ) → r.value ≡ cond r.found (at_most (value_of w)) 0 → z ≡ with_sign minus (cut_magnitude (value_of w))
-    → cond r.found (with_sign minus (cut_magnitude r.value)) (pos 0) ≡ cond r.found z (pos 0)
-signed-of minus start end r z w e f = go r.found e
-  where
-    go : (b : Bool) → r.value ≡ cond b (at_most (value_of w)) 0 → cond b (with_sign minus (cut_magnitude r.value)) (pos 0) ≡ cond b z (pos 0)
-    go true q = ap (λ (n : ℕ). with_sign minus (cut_magnitude n)) q ∙ ap (with_sign minus) (cut_twice max_numerator 100000000001 (value_of w) (omega arith)) ∙ sym f
-    go false q = refl
+-- the same number with its sign: where one is found, and what it is
+signed-read : (minus : Bool) (s : List ℕ) (here there : Bool) (w : List ℕ) (end end' : ℕ) (z : ℤ) (r : Option (Parsed ℕ)) → here ≡ there → z ≡ with_sign minus (cut_magnitude (value_of w)) → end ≡ end'
+    → ReadAs s here (at_most (value_of w)) end r → ReadAs s there z end' (signed minus r)
+signed-read minus s here there w end end' z None e f g d = record { found-is = d.found-is ∙ e; read = tt }
+signed-read minus s here there w end end' z (Some n) e f g d = record {
+  found-is = d.found-is ∙ e;
+  read = record {
+    value-is = ap (λ (x : ℕ). with_sign minus (cut_magnitude x)) d.read.value-is ∙ ap (with_sign minus) (cut_twice max_numerator 100000000001 (value_of w) (omega arith)) ∙ sym f;
+    end_is = d.read.end_is ∙ g;
+    within = d.read.within;
+  };
+}
 
-module _ (s : List ℕ) (at : ℕ) (r : Number) where
+module _ (s : List ℕ) (at : ℕ) (r : Option (Parsed ℕ)) where
   abbrev start : ℕ
   start = start_at s at
 
@@ -173,26 +175,10 @@ module _ (s : List ℕ) (at : ℕ) (r : Number) where
     word-is : word_at 0 (words_at s at) ≡ 45 ∷ letters_at s (start + 1)
     word-is = sym (first_word s at) ∙ ap₂ (λ (n : ℕ) (l : List ℕ). take n l) letters front-cons ∙ rw add-one refl
 
-    end_is : cond r.found r.end start ≡ cond r.found (end_at s at) start
-    end_is = go r.found d.end_is
-      where
-        go : (b : Bool) → r.end ≡ cond b (letters_end s (start + 1)) (start + 1) → cond b r.end start ≡ cond b (end_at s at) start
-        go true q = q ∙ rw add-one (omega (arith, letters))
-        go false q = refl
-
-    pub minus-read : SignedRead s at (signed_from true start r)
+    pub minus-read : SignedRead s at (signed true r)
     unfolding is_signed signed_of
-    minus-read = record {
-      found-is = d.found-is ∙ sym (ap is_signed word-is);
-      value-is = signed-of true start r.end r (cut_numerator (signed_of (word_at 0 (words_at s at)))) (letters_at s (start + 1)) d.value-is
-          (ap (λ (w : List ℕ). cut_numerator (signed_of w)) word-is ∙ negated (value_of (letters_at s (start + 1))));
-      end_is = end_is;
-      within = go r.found d.within;
-    }
-      where
-        go : (b : Bool) → r.end ≤ length s → cond b r.end start ≤ length s
-        go true h = h
-        go false h = omega (arith, here)
+    minus-read = signed-read true s _ _ (letters_at s (start + 1)) _ _ _ r (sym (ap is_signed word-is))
+        (ap (λ (w : List ℕ). cut_numerator (signed_of w)) word-is ∙ negated (value_of (letters_at s (start + 1)))) (rw add-one (omega (arith, letters))) d
 
   module _ (plain : get_or s start 0 ≡ 45 → ⊥) (h : start ≤ length s) (d : DigitsRead s start r) where
     first_byte : (n : ℕ) → get_or (take n (drop start s)) 0 0 ≡ 45 → ⊥
@@ -209,34 +195,18 @@ module _ (s : List ℕ) (at : ℕ) (r : Number) where
     as_plain = subst (λ (w : List ℕ). (is_signed w ≡ is_number (letters_at s start)) × (signed_of w ≡ pos (value_of (letters_at s start)))) (first_word s at)
         (unsigned (letters_at s start) (first_byte (run is_letter (drop start s))))
 
-    pub plain-read : SignedRead s at (signed_from false start r)
-    plain-read = record {
-      found-is = d.found-is ∙ sym as_plain.0;
-      value-is = signed-of false start r.end r (cut_numerator (signed_of (word_at 0 (words_at s at)))) (letters_at s start) d.value-is (ap cut_numerator as_plain.1);
-      end_is = go r.found d.end_is;
-      within = within-is r.found d.within;
-    }
-      where
-        go : (b : Bool) → r.end ≡ cond b (letters_end s start) start → cond b r.end start ≡ cond b (end_at s at) start
-        go true q = q
-        go false q = refl
-
-        within-is : (b : Bool) → r.end ≤ length s → cond b r.end start ≤ length s
-        within-is true w = w
-        within-is false w = h
+    pub plain-read : SignedRead s at (signed false r)
+    plain-read = signed-read false s _ _ (letters_at s start) _ _ _ r (sym as_plain.0) (ap cut_numerator as_plain.1) refl d
 
 -- ---- the same, from the place that the blanks' end was found at
-module _ (s : List ℕ) (at start : ℕ) (r : Number) (e : start ≡ start_at s at) where
+module _ (s : List ℕ) (at start : ℕ) (r : Option (Parsed ℕ)) (e : start ≡ start_at s at) where
   pub number-from : DigitsRead s start r → NumberRead s at r
   number-from d = number_read s at r (subst (λ (k : ℕ). DigitsRead s k r) e d)
 
-  pub minus-from : (q : Signed) → get_or s start 0 ≡ 45 → DigitsRead s (start + 1) r → q ≡ signed_from true start r → SignedRead s at q
-  minus-from q m d f = subst (SignedRead s at) (sym (f ∙ ap (λ (k : ℕ). signed_from true k r) e))
+  pub minus-from : (q : Option (Parsed ℤ)) → get_or s start 0 ≡ 45 → DigitsRead s (start + 1) r → q ≡ signed true r → SignedRead s at q
+  minus-from q m d f = subst (SignedRead s at) (sym f)
       (minus-read s at r (ap (λ (k : ℕ). get_or s k 0) (sym e) ∙ m) (subst (λ (k : ℕ). DigitsRead s (k + 1) r) e d))
 
-  pub plain-from : (q : Signed) → (get_or s start 0 ≡ 45 → ⊥) → start ≤ length s → DigitsRead s start r → q ≡ signed_from false start r → SignedRead s at q
-  plain-from q m h d f = subst (SignedRead s at) (sym (f ∙ ap (λ (k : ℕ). signed_from false k r) e))
+  pub plain-from : (q : Option (Parsed ℤ)) → (get_or s start 0 ≡ 45 → ⊥) → start ≤ length s → DigitsRead s start r → q ≡ signed false r → SignedRead s at q
+  plain-from q m h d f = subst (SignedRead s at) (sym f)
       (plain-read s at r (λ z. m (ap (λ (k : ℕ). get_or s k 0) e ∙ z)) (subst (λ (k : ℕ). k ≤ length s) e h) (subst (λ (k : ℕ). DigitsRead s k r) e d))
-
-pub word-from : (s : List ℕ) (at start end : ℕ) → start ≡ start_at s at → end ≡ letters_end s start → end ≤ length s → WordRead s at (record { start = start; end = end })
-word-from s at start end e f h = record { start_is = e; end_is = f ∙ ap (letters_end s) e; within = h }

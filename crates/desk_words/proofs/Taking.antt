@@ -1,14 +1,14 @@
 -- A run of words taken into a table, one by one: so many are laid into its front, and what they leave of the run is what the words from
 -- there on begin with.
 use mathlib.Core.Path.{◌≡◌, refl, sym, ◌∙◌, ap, ap₂}
-use mathlib.Core.Bool.{Bool, true, false, cond, true≢false}
+use mathlib.Core.Bool.{Bool, true, false, true≢false}
 use mathlib.Core.List.{List, [], ◌∷◌, map, ◌++◌}
 use Prim.Native.Nat.{ℕ, zero, suc, ◌+◌, ◌^◌, ◌≤◌, ◌<◌}
 use native.Mathlib.Decide.{dec_lt}
 use native.Mathlib.Numerals.{add-one}
 use native.Mathlib.Omega.{arith}
 use lib.IntN.{ℤ, pos, negsuc, neg_ℤ, nat_abs}
-use lib.ListN.{length, length-map, length-set, set, take, drop, drop_of_length-le}
+use lib.ListN.{length, length-map, length-set, set, take, drop}
 use lib.Seq.{length-take-le, take-suc-set, drop-set-lt, drop-drop}
 use mir.Syntax.{w64}
 use mir.Val.{to_z, of_z}
@@ -17,11 +17,12 @@ use Rattle.exact.proofs.Decide.{by_cases}
 use Rattle.exact.proofs.Sign.{fits_abs}
 use Rattle.lengths.specs.Limits.{max_numerator}
 use Rattle.digits.specs.Digits.{at_most}
-use Rattle.desk_text.specs.Words.{words, is_number, value_of, is_signed, signed_of, leading, behind}
+use Rattle.desk_text.specs.Words.{is_number, value_of, is_signed, signed_of, leading, behind}
 use Rattle.desk_text.specs.Meaning.{word_at}
 use Rattle.desk_text.specs.Fields.{cut_to, cut_magnitude, cut_numerator}
 use Rattle.desk_text.proofs.Cutting.{cut_low, cut_high}
-use Rattle.desk_words.specs.Reads.{words_at, start_at, end_at, TakenIn}
+use Rattle.desk_words.specs.Reads.{words_at, end_at, IsParsed, TakenIn}
+use Rattle.desk_words.specs.declared.Parsed.{Parsed}
 use Rattle.desk_words.proofs.Reading.{words-behind, word-further, cut_twice}
 
 append-nil : {A : Type 0} (l : List A) → l ++ [] ≡ l
@@ -100,27 +101,12 @@ module _ {A : Type 0} (p : List ℕ → Bool) (f : List ℕ → A) (s : List ℕ
         count-is lead = sym (length-take-le count into (omega (arith, g.room, g.size))) ∙ ap length (sym (all lead)) ∙ length-map (leading p (words_at s at)) f
 
 -- ---- the word that was just read
-module _ (p : List ℕ → Bool) (none : p [] ≡ false) (s : List ℕ) (end next : ℕ) (found : Bool) (is : found ≡ p (word_at 0 (words_at s end)))
-    (next-is : next ≡ cond found (end_at s end) (start_at s end)) (hit : found ≡ true) where
-  pub of-kind : p (word_at 0 (words_at s end)) ≡ true
-  of-kind = sym is ∙ hit
+module _ {A : Type 0} (s : List ℕ) (end : ℕ) (value : A) (n : Parsed A) (read : IsParsed s value (end_at s end) n) where
+  pub words-next : words_at s n.end ≡ drop 1 (words_at s end)
+  words-next = ap (words_at s) read.end_is ∙ words-behind s end
 
-  next-end : next ≡ end_at s end
-  next-end = next-is ∙ ap (λ (b : Bool). cond b (end_at s end) (start_at s end)) hit
-
-  pub words-next : words_at s next ≡ drop 1 (words_at s end)
-  words-next = ap (words_at s) next-end ∙ words-behind s end
-
-  pub further : end < next
-  further = rw next-end (word-further p s end none of-kind)
-
-pub not_of-kind : (p : List ℕ → Bool) (s : List ℕ) (end : ℕ) (found : Bool) → found ≡ p (word_at 0 (words_at s end)) → found ≡ false → p (word_at 0 (words_at s end)) ≡ false
-not_of-kind p s end found is miss = sym is ∙ miss
-
--- at the line's end no word is left
-pub none-at-end : (p : List ℕ → Bool) → p [] ≡ false → (s : List ℕ) (end : ℕ) → length s ≤ end → p (word_at 0 (words_at s end)) ≡ false
-unfolding words
-none-at-end p none s end h = ap (λ (l : List ℕ). p (word_at 0 (words l))) (drop_of_length-le s h) ∙ none
+  pub further : (p : List ℕ → Bool) → p [] ≡ false → p (word_at 0 (words_at s end)) ≡ true → end < n.end
+  further p none is = rw read.end_is (word-further p s end none is)
 
 -- the empty word is no number
 pub no_number : is_number [] ≡ false
@@ -131,18 +117,11 @@ pub no_signed : is_signed [] ≡ false
 unfolding is_signed
 no_signed = refl
 
--- what is laid down of a number, and of a numerator
-pub cut-value : (most above v n : ℕ) (w : List ℕ) (found : Bool) → found ≡ true → most < 1000000000000000 → n ≡ cond found (at_most (value_of w)) 0 → v ≡ cut_to most above n → v ≡ cut_to most above (value_of w)
-cut-value most above v n w found hit h e f = f ∙ ap (cut_to most above) (e ∙ ap (λ (b : Bool). cond b (at_most (value_of w)) 0) hit) ∙ cut_twice most above (value_of w) h
+-- what is laid down of a number
+pub cut-value : (most above v n : ℕ) (w : List ℕ) → most < 1000000000000000 → n ≡ at_most (value_of w) → v ≡ cut_to most above n → v ≡ cut_to most above (value_of w)
+cut-value most above v n w h e f = f ∙ ap (cut_to most above) e ∙ cut_twice most above (value_of w) h
 
-pub signed-value : (z : ℤ) (w : List ℕ) (found : Bool) → found ≡ true → z ≡ cond found (cut_numerator (signed_of w)) (pos 0) → z ≡ cut_numerator (signed_of w)
-signed-value z w found hit e = e ∙ ap (λ (b : Bool). cond b (cut_numerator (signed_of w)) (pos 0)) hit
-
--- what is cut to a field of 16 bits fits there
-pub cut_fits : (most above v n : ℕ) → most < 65536 → above < 65536 → v ≡ cut_to most above n → v < 65536
-cut_fits most above v n h g e = by_cases (dec_lt most n) (λ l. omega (arith, e, cut_high most above n l)) (λ l. let m : n ≤ most = omega arith in omega (arith, e, cut_low most above n m))
-
-pub magnitude-small : (n : ℕ) → cut_magnitude n < 2 ^ 62
+magnitude-small : (n : ℕ) → cut_magnitude n < 2 ^ 62
 magnitude-small n = by_cases (dec_lt max_numerator n)
     (λ l. let e = cut_high max_numerator 100000000001 n l in omega (arith, e))
     (λ l. let e = cut_low max_numerator 100000000001 n (omega arith) in omega (arith, e))

@@ -1,12 +1,11 @@
 -- What is read of a line from a place on: a word, a number, and a run of numbers.
-use Rattle.std.specs.Prelude.{◌≡◌, Bool, true, false, cond, List, map, ◌++◌, ℕ, ◌+◌, ◌≤◌, ℤ, pos, neg_ℤ, length, take, drop}
+use Rattle.std.specs.Prelude.{◌≡◌, Bool, true, false, List, map, ◌++◌, ℕ, ◌+◌, ◌≤◌, ℤ, pos, neg_ℤ, length, take, drop, Option, Some, None, is_some, IfSome}
 use Rattle.digits.specs.Digits.{run, is_blank, at_most}
 use Rattle.desk_text.specs.Words.{is_letter, words, is_number, value_of, is_signed, signed_of, leading, behind}
 use Rattle.desk_text.specs.Meaning.{word_at}
 use Rattle.desk_text.specs.Fields.{cut_magnitude, cut_numerator}
 use Rattle.desk_words.specs.declared.Word.{Word}
-use Rattle.desk_words.specs.declared.Number.{Number}
-use Rattle.desk_words.specs.declared.Signed.{Signed}
+use Rattle.desk_words.specs.declared.Parsed.{Parsed}
 use Rattle.desk_words.specs.declared.Taken.{Taken}
 
 -- the words of a line from a place on
@@ -32,39 +31,38 @@ pub record WordRead (s : List ℕ) (at : ℕ) (r : Word) : Type 0 where
   pub end_is : r.end ≡ end_at s at
   pub within : r.end ≤ length s
 
+-- a word read as a number that is this, and ends there
+pub record IsParsed {A : Type 0} (s : List ℕ) (value : A) (end : ℕ) (n : Parsed A) : Type 0 where
+  pub value-is : n.value ≡ value
+  pub end_is : n.end ≡ end
+  pub within : n.end ≤ length s
+
+-- there is one exactly where the word is of the kind
+pub record ReadAs {A : Type 0} (s : List ℕ) (of_kind : Bool) (value : A) (end : ℕ) (r : Option (Parsed A)) : Type 0 where
+  pub found-is : is_some r ≡ of_kind
+  pub read : IfSome r (λ n. IsParsed s value end n)
+
 -- the letters at a place as a number
-pub record DigitsRead (s : List ℕ) (at : ℕ) (r : Number) : Type 0 where
-  pub found-is : r.found ≡ is_number (letters_at s at)
-  pub value-is : r.value ≡ cond r.found (at_most (value_of (letters_at s at))) 0
-  pub end_is : r.end ≡ cond r.found (letters_end s at) at
-  pub within : r.end ≤ length s
+abbrev pub DigitsRead : List ℕ → ℕ → Option (Parsed ℕ) → Type 0
+DigitsRead s at r = ReadAs s (is_number (letters_at s at)) (at_most (value_of (letters_at s at))) (letters_end s at) r
 
 -- the first word from a place on as a number
-pub record NumberRead (s : List ℕ) (at : ℕ) (r : Number) : Type 0 where
-  pub found-is : r.found ≡ is_number (word_at 0 (words_at s at))
-  pub value-is : r.value ≡ cond r.found (at_most (value_of (word_at 0 (words_at s at)))) 0
-  pub end_is : r.end ≡ cond r.found (end_at s at) (start_at s at)
-  pub within : r.end ≤ length s
+abbrev pub NumberRead : List ℕ → ℕ → Option (Parsed ℕ) → Type 0
+NumberRead s at r = ReadAs s (is_number (word_at 0 (words_at s at))) (at_most (value_of (word_at 0 (words_at s at)))) (end_at s at) r
 
 -- a magnitude with its sign
 abbrev pub with_sign : Bool → ℕ → ℤ
 with_sign true n = neg_ℤ (pos n)
 with_sign false n = pos n
 
--- a number with its sign, of a word that begins at a place
-abbrev pub signed_from : Bool → ℕ → Number → Signed
-signed_from minus start n = record {
-  found = n.found;
-  value = cond n.found (with_sign minus (cut_magnitude n.value)) (pos 0);
-  end = cond n.found n.end start;
-}
+-- a number with its sign, where there is one
+abbrev pub signed : Bool → Option (Parsed ℕ) → Option (Parsed ℤ)
+signed minus None = None
+signed minus (Some n) = Some (record { value = with_sign minus (cut_magnitude n.value); end = n.end })
 
 -- the first word from a place on as a number that may have a minus
-pub record SignedRead (s : List ℕ) (at : ℕ) (r : Signed) : Type 0 where
-  pub found-is : r.found ≡ is_signed (word_at 0 (words_at s at))
-  pub value-is : r.value ≡ cond r.found (cut_numerator (signed_of (word_at 0 (words_at s at)))) (pos 0)
-  pub end_is : r.end ≡ cond r.found (end_at s at) (start_at s at)
-  pub within : r.end ≤ length s
+abbrev pub SignedRead : List ℕ → ℕ → Option (Parsed ℤ) → Type 0
+SignedRead s at r = ReadAs s (is_signed (word_at 0 (words_at s at))) (cut_numerator (signed_of (word_at 0 (words_at s at)))) (end_at s at) r
 
 -- the words of a kind at the front, each as f says, laid into the front of a table; behind them stands what stood there
 pub record TakenIn {A : Type 0} (p : List ℕ → Bool) (f : List ℕ → A) (s : List ℕ) (at : ℕ) (before after : List A) (r : Taken) : Type 0 where

@@ -5,7 +5,7 @@ ghost use Rattle.std.specs.Prelude.{◌≡◌, ◌+◌, ◌≤◌, ◌<◌, ℤ,
 ghost use Rattle.digits.specs.Digits.{run};
 ghost use Rattle.desk_text.specs.Words.{is_letter, word_over, words, is_number, value_of, is_signed, signed_of};
 ghost use Rattle.desk_text.specs.Fields.{cut_to, cut_magnitude, cut_numerator};
-ghost use Rattle.desk_words.specs.Reads.{DigitsRead, WordRead, NumberRead, with_sign, signed_from, SignedRead, TakenIn};
+ghost use Rattle.desk_words.specs.Reads.{DigitsRead, WordRead, NumberRead, with_sign, signed, SignedRead, TakenIn};
 
 use lengths::Lengths;
 
@@ -24,14 +24,12 @@ fn letters_end(line: &[u8], at: usize) -> usize
     requires { at ≤ length line.now }
     ensures { (result ≡ at + run is_letter (drop at line.now)) × (result ≤ length line.now) }
 {
-    let mut end = at;
-    while end < line.len() {
+    for end in at..line.len() {
         if digits::is_blank(line[end]) {
             return end;
         }
-        end += 1;
     }
-    end
+    line.len()
 }
 
 // Where a word begins and ends.
@@ -53,48 +51,37 @@ pub fn word_at(line: &[u8], at: usize) -> Word
     }
 }
 
-// Whether a word is a number, what it is, cut, and where it ends; where it is none, 0 and where it begins.
+// A number that was read, and where its word ends.
 #[derive(Clone, Copy)]
-pub struct Number {
-    pub found: bool,
-    pub value: u64,
+pub struct Parsed<T> {
+    pub value: T,
     pub end: usize,
 }
 
 // The letters at a place as a number.
-fn digits_at(line: &[u8], at: usize) -> Number
+fn digits_at(line: &[u8], at: usize) -> Option<Parsed<u64>>
     requires { at ≤ length line.now }
     ensures { DigitsRead line.now at result }
 {
     let end = digits::digits_end(line, at);
     if end == at {
-        return Number {
-            found: false,
-            value: 0,
-            end: at,
-        };
+        return None;
     }
     if !word_over(line, end) {
-        return Number {
-            found: false,
-            value: 0,
-            end: at,
-        };
+        return None;
     }
-    Number {
-        found: true,
+    Some(Parsed {
         value: digits::number(line, 0, at, end),
         end,
-    }
+    })
 }
 
 // The first word from a place on as a number.
-pub fn number_at(line: &[u8], at: usize) -> Number
+pub fn number_at(line: &[u8], at: usize) -> Option<Parsed<u64>>
     requires { at ≤ length line.now }
     ensures { NumberRead line.now at result }
 {
-    let start = digits::blanks_end(line, at);
-    digits_at(line, start)
+    digits_at(line, digits::blanks_end(line, at))
 }
 
 // A number that is at most `most`, and `above` for one that is not.
@@ -122,42 +109,27 @@ fn numerator(minus: bool, magnitude: u64) -> i64
     cut
 }
 
-// Whether a word is a number that may have a minus, what it is as a numerator, and where it ends; where it is none, 0 and where it begins.
-#[derive(Clone, Copy)]
-pub struct Signed {
-    pub found: bool,
-    pub value: i64,
-    pub end: usize,
-}
-
-// A number with its sign, of a word that begins at a place.
-fn signed_from(minus: bool, start: usize, read: Number) -> Signed
-    ensures { result ≡ signed_from minus start read }
+// A number with its sign.
+fn signed(minus: bool, read: Option<Parsed<u64>>) -> Option<Parsed<i64>>
+    ensures { result ≡ signed minus read }
 {
-    if !read.found {
-        return Signed {
-            found: false,
-            value: 0,
-            end: start,
-        };
-    }
-    Signed {
-        found: true,
-        value: numerator(minus, read.value),
-        end: read.end,
-    }
+    let number = read?;
+    Some(Parsed {
+        value: numerator(minus, number.value),
+        end: number.end,
+    })
 }
 
 // The first word from a place on as a number that may have a minus.
-pub fn signed_at(line: &[u8], at: usize) -> Signed
+pub fn signed_at(line: &[u8], at: usize) -> Option<Parsed<i64>>
     requires { at ≤ length line.now }
     ensures { SignedRead line.now at result }
 {
     let start = digits::blanks_end(line, at);
-    if digits::byte_at(line, start) == 45 {
-        return signed_from(true, start, digits_at(line, start + 1));
+    if digits::byte_at(line, start) == b'-' {
+        return signed(true, digits_at(line, start + 1));
     }
-    signed_from(false, start, digits_at(line, start))
+    signed(false, digits_at(line, start))
 }
 
 // What was taken: how many words, and where they end.
@@ -174,11 +146,7 @@ pub fn numbers(line: &[u8], at: usize, most: u16, above: u16, into: &mut [u16]) 
 {
     let mut count = 0;
     let mut end = at;
-    while end < line.len() {
-        let next = number_at(line, end);
-        if !next.found {
-            return Taken { count, end };
-        }
+    while let Some(next) = number_at(line, end) {
         into[count] = field(next.value, most as u64, above as u64) as u16;
         count += 1;
         end = next.end;
@@ -193,13 +161,8 @@ pub fn numerators(line: &[u8], at: usize, into: &mut [i64]) -> Taken
 {
     let mut count = 0;
     let mut end = at;
-    while end < line.len() {
-        let next = signed_at(line, end);
-        if !next.found {
-            return Taken { count, end };
-        }
-        let value = next.value;
-        into[count] = value;
+    while let Some(next) = signed_at(line, end) {
+        into[count] = next.value;
         count += 1;
         end = next.end;
     }

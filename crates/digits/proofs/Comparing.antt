@@ -1,4 +1,4 @@
--- Two texts compared: byte by byte (`same-longer`, `same-on`, `same-off`, `same-all`), and what the answer tells (`same_self`, `same_list_lem`).
+-- Two texts compared: byte by byte (`same_is`), by their lengths (`same-longer`), and what the answer tells (`same_self`, `same_list_lem`).
 use mathlib.Core.Path.{◌≡◌, refl, sym, ◌∙◌, ap, ap₂}
 use mathlib.Core.Bool.{Bool, true, false, ◌&&◌, true≢false}
 use mathlib.Core.List.{List, [], ◌∷◌}
@@ -6,11 +6,13 @@ use Prim.Native.Nat.{ℕ, suc, ◌+◌, ◌≤◌, ◌<◌}
 use native.Mathlib.Numerals.{add-one}
 use borrow.Author.Tests.{eq-eqb, ne_eqb, eqb-true}
 use lib.Dec.{eqb}
+use lib.Pointwise.{pointwise}
 use lib.ListN.{length, get_or, drop, drop_of_length-le}
 use lib.Seq.{drop-cons}
 use Rattle.digits.specs.Digits.{same}
 use Rattle.digits.proofs.Reading.{both_true}
 
+-- texts of different lengths are not the same
 pub same-longer : (a b : List ℕ) → (length a ≡ length b → ⊥) → false ≡ same a b
 unfolding same
 same-longer [] [] n = absurd (n refl)
@@ -22,20 +24,13 @@ same-longer (x ∷ xs) (y ∷ ys) n = let ih = same-longer xs ys (λ e. n (ap su
     and_no true = refl
     and_no false = refl
 
-module _ (a b : List ℕ) (k : ℕ) (h : k < length a) (g : k < length b) where
-  turn : same (drop k a) (drop k b) ≡ (eqb (get_or a k 0) (get_or b k 0) && same (drop (suc k) a) (drop (suc k) b))
-  unfolding same
-  turn = ap₂ same (drop-cons a k 0 h) (drop-cons b k 0 g)
-
-  pub same-on : get_or a k 0 ≡ get_or b k 0 → same (drop k a) (drop k b) ≡ same a b → same (drop (k + 1) a) (drop (k + 1) b) ≡ same a b
-  same-on e t = rw add-one (sym (ap (λ (q : Bool). q && same (drop (suc k) a) (drop (suc k) b)) (eq-eqb (get_or a k 0) (get_or b k 0) e)) ∙ sym turn ∙ t)
-
-  pub same-off : (get_or a k 0 ≡ get_or b k 0 → ⊥) → same (drop k a) (drop k b) ≡ same a b → false ≡ same a b
-  same-off n t = sym (ap (λ (q : Bool). q && same (drop (suc k) a) (drop (suc k) b)) (ne_eqb (get_or a k 0) (get_or b k 0) n)) ∙ sym turn ∙ t
-
-pub same-all : (a b : List ℕ) (k : ℕ) → length a ≤ k → length b ≤ k → same (drop k a) (drop k b) ≡ same a b → true ≡ same a b
+-- the library compares byte by byte
+pub same_is : (a b : List ℕ) → pointwise eqb a b ≡ same a b
 unfolding same
-same-all a b k h g t = sym (ap₂ same (drop_of_length-le a h) (drop_of_length-le b g)) ∙ t
+same_is [] [] = refl
+same_is [] (y ∷ ys) = refl
+same_is (x ∷ xs) [] = refl
+same_is (x ∷ xs) (y ∷ ys) = ap (◌&&◌ (eqb x y)) (same_is xs ys)
 
 -- ---- what the answer tells
 pub same_self : (xs : List ℕ) → same xs xs ≡ true

@@ -23,17 +23,7 @@ pub fn byte_at(text: &[u8], k: usize) -> u8
 pub fn same(a: &[u8], b: &[u8]) -> bool
     ensures { result ≡ same a.now b.now }
 {
-    if a.len() != b.len() {
-        return false;
-    }
-    let mut k = 0;
-    while k < a.len() {
-        if a[k] != b[k] {
-            return false;
-        }
-        k += 1;
-    }
-    true
+    a == b
 }
 
 // Whether a byte is a blank.
@@ -51,14 +41,12 @@ pub fn blanks_end(text: &[u8], at: usize) -> usize
     requires { at ≤ length text.now }
     ensures { (result ≡ at + run is_blank (drop at text.now)) × (result ≤ length text.now) }
 {
-    let mut end = at;
-    while end < text.len() {
+    for end in at..text.len() {
         if !is_blank(text[end]) {
             return end;
         }
-        end += 1;
     }
-    end
+    text.len()
 }
 
 // Whether a byte is a digit.
@@ -98,14 +86,12 @@ pub fn digits_end(text: &[u8], at: usize) -> usize
     requires { at ≤ length text.now }
     ensures { (result ≡ at + run is_digit (drop at text.now)) × (result ≤ length text.now) }
 {
-    let mut end = at;
-    while end < text.len() {
+    for end in at..text.len() {
         if !is_digit(text[end]) {
             return end;
         }
-        end += 1;
     }
-    end
+    text.len()
 }
 
 // The number that the digits from one place to another are, behind others that are `number`; cut.
@@ -114,10 +100,8 @@ pub fn number(text: &[u8], number: u64, from: usize, to: usize) -> u64
     ensures { (result ≡ at_most (number_from number (slice from to text.now))) × (result ≤ most) }
 {
     let mut all = number;
-    let mut k = from;
-    while k < to {
+    for k in from..to {
         all = longer(all, text[k]);
-        k += 1;
     }
     all
 }

@@ -9,32 +9,17 @@ use borrow.Author.Tests.{ne_eqb}
 use lib.IntN.{ℤ, pos}
 use lib.ListN.{length}
 use Rattle.exact.proofs.Decide.{by_cases, eq_yes}
-use Rattle.verdict.specs.Answer.{Answer, pass, fault, answer_of, refusal_of, test, ◌or_else◌}
-use Rattle.verdict.specs.declared.Place.TheVariants.{Nowhere}
+use Rattle.verdict.specs.Answer.{Answer, pass, number, number_of, refusal_of, test, ◌or_else◌}
 use Rattle.verdict.specs.declared.Refusal.{Refusal}
-use Rattle.verdict.specs.declared.Verdict.TheVariants.{Accepted, Refused}
-use Rattle.verdict.specs.declared.Verdict.{Verdict}
-use Rattle.verdict.proofs.Answers.{or_else_pass, or_else_assoc, refused-row, accepted-row, not_pass, test-pass, or_none}
+use Rattle.std.specs.Prelude.{Result, Ok, Err}
+use Rattle.verdict.proofs.Answers.{or_else_pass, or_else_assoc, not_pass, test-pass, or_none}
 use Rattle.matrix.specs.Place.{some_missing}
 use Rattle.fit_theory.specs.Stands.{Shaped}
 use Rattle.fit_theory.specs.Tests.{buffer_out, shape_tests}
 use Rattle.fit_theory.proofs.Exactly.{→shaped}
 use Rattle.direct_theory.specs.Tests.{degree_tests, direct_only, buffers_out, resolved_tests, direct_tests}
 use Rattle.direct_fit.specs.declared.DirectFit.{DirectFit}
-use Rattle.direct_fit.specs.Answers.{Resolves, DirectAnswer}
-
--- ---- the three sizes
-pub one_size : (K a b c : ℕ) → (a ≡ K → ⊥) → fault 15 Nowhere ≡ test 15 (buffers_out K a b c)
-one_size K a b c h = rw (ne_eqb a K h)
-
-pub two_size : (K a b c : ℕ) → a ≡ K → (b ≡ K → ⊥) → fault 15 Nowhere ≡ test 15 (buffers_out K a b c)
-two_size K a b c e h = rw (eq_yes e, ne_eqb b K h)
-
-pub three-size : (K a b c : ℕ) → a ≡ K → b ≡ K → (c ≡ K → ⊥) → fault 15 Nowhere ≡ test 15 (buffers_out K a b c)
-three-size K a b c e f h = rw (eq_yes e, eq_yes f, ne_eqb c K h)
-
-pub all-sizes : (K a b c : ℕ) → a ≡ K → b ≡ K → c ≡ K → pass ≡ test 15 (buffers_out K a b c)
-all-sizes K a b c e f g = rw (eq_yes e, eq_yes f, eq_yes g)
+use Rattle.direct_fit.specs.Answers.{DirectAnswer, LengthsAnswer}
 
 same_size : (a b : ℕ) → buffer_out a b ≡ false → a ≡ b
 same_size a b e = by_cases (ℕ_discrete a b) (λ q. q) (λ n. absurd (false≢true (sym e ∙ off n)))
@@ -42,32 +27,29 @@ same_size a b e = by_cases (ℕ_discrete a b) (λ q. q) (λ n. absurd (false≢t
     off : (a ≡ b → ⊥) → buffer_out a b ≡ true
     off n = rw (ne_eqb a b n)
 
--- ---- degrees and missing pairs, where v answers the degrees
-module _ (N : ℕ) (ds ps : List ℕ) (v : Verdict) (asked : answer_of v ≡ degree_tests N ps) where
-  pub degrees_refused : (k : Refusal) → v ≡ Refused k → refusal_of k ≡ direct_only N ds ps
-  degrees_refused k q = refused-row k v (degree_tests N ps) (test 26 (some_missing ds)) q asked
-
-  -- what a missing pair tells behind them
-  pub missing-asked : v ≡ Accepted → (gone : Bool) → gone ≡ some_missing ds → test 26 gone ≡ direct_only N ds ps
-  missing-asked q gone e = ap (λ (b : Bool). test 26 b) e ∙ accepted-row v (degree_tests N ps) (test 26 (some_missing ds)) q asked
-
--- ---- the tests in order, where v answers those of the matrix with the tree
-module _ (N : ℕ) (ds ps : List ℕ) (a b c : ℕ) (v : Verdict) (asked : answer_of v ≡ shape_tests N ds ps) where
+-- ---- the tests in order, behind those of the matrix with the tree
+module _ (N : ℕ) (ds ps : List ℕ) (a b c : ℕ) where
   abbrev rest : Answer
   rest = direct_only N ds ps or_else test 15 (buffers_out (length ps) a b c)
 
-  in_order : (shape_tests N ds ps or_else rest) ≡ direct_tests N ds ps a b c
+  pub in_order : (shape_tests N ds ps or_else rest) ≡ direct_tests N ds ps a b c
   in_order = sym (or_else_assoc (shape_tests N ds ps) (direct_only N ds ps) (test 15 (buffers_out (length ps) a b c)))
 
-  pub first : (k : Refusal) → v ≡ Refused k → refusal_of k ≡ direct_tests N ds ps a b c
-  first k q = refused-row k v (shape_tests N ds ps) rest q asked ∙ in_order
+  pub first : (k : Refusal) → refusal_of k ≡ shape_tests N ds ps → refusal_of k ≡ direct_tests N ds ps a b c
+  first k e = ap (λ (x : Answer). x or_else rest) e ∙ in_order
 
-  pub shaped : v ≡ Accepted → Shaped N ds ps
-  shaped q = →shaped N ds ps (sym asked ∙ ap answer_of q)
+  module _ (z : pass ≡ shape_tests N ds ps) where
+    pub shaped : Shaped N ds ps
+    shaped = →shaped N ds ps (sym z)
 
-  pub then : v ≡ Accepted → (w x y : Verdict) → answer_of w ≡ direct_only N ds ps → answer_of x ≡ test 15 (buffers_out (length ps) a b c)
-      → answer_of y ≡ (answer_of w or_else answer_of x) → answer_of y ≡ direct_tests N ds ps a b c
-  then q w x y e f g = g ∙ ap₂ ◌or_else◌ e f ∙ accepted-row v (shape_tests N ds ps) rest q asked ∙ in_order
+    behind : rest ≡ direct_tests N ds ps a b c
+    behind = ap (λ (x : Answer). x or_else rest) z ∙ in_order
+
+    pub second : (k : Refusal) → refusal_of k ≡ direct_only N ds ps → refusal_of k ≡ direct_tests N ds ps a b c
+    second k e = ap (λ (x : Answer). x or_else test 15 (buffers_out (length ps) a b c)) e ∙ behind
+
+    pub third : pass ≡ direct_only N ds ps → test 15 (buffers_out (length ps) a b c) ≡ direct_tests N ds ps a b c
+    third e = ap (λ (x : Answer). x or_else test 15 (buffers_out (length ps) a b c)) e ∙ behind
 
 -- ---- what passes all tests
 pub record Passed (N : ℕ) (ds ps : List ℕ) (a b c : ℕ) : Type 0 where
@@ -98,20 +80,20 @@ passed N ds ps a b c z = record {
     others : (buffer_out b (length ps) ≡ false) × (buffer_out c (length ps) ≡ false)
     others = or_none (buffer_out b (length ps)) (buffer_out c (length ps)) sizes.1
 
--- ---- the answer, where v is that of the tests
-module _ (N : ℕ) (ds ps : List ℕ) (nb : List ℤ) (eb : List ℕ) (mb : List ℤ) (v : Verdict)
-    (asked : answer_of v ≡ direct_tests N ds ps (length nb) (length eb) (length mb)) where
-  pub refused : (k : Refusal) → v ≡ Refused k → DirectAnswer N ds ps nb nb eb eb mb mb (record { verdict = Refused k; r = pos 0; h = pos 0 })
-  refused k q = record { answer = w; fit = λ z. absurd (not_pass k (w ∙ z)); silent = λ _. (refl, refl); kept = λ _. (refl, refl, refl) }
-    where
-      w : refusal_of k ≡ direct_tests N ds ps (length nb) (length eb) (length mb)
-      w = sym (ap answer_of q) ∙ asked
-
-  pub accepted : v ≡ Accepted → Passed N ds ps (length nb) (length eb) (length mb)
-  accepted q = passed N ds ps (length nb) (length eb) (length mb) (sym asked ∙ ap answer_of q)
-
-  pub fitted : v ≡ Accepted → (na : List ℤ) (ea : List ℕ) (ma : List ℤ) (x : DirectFit) → x.verdict ≡ Accepted → Resolves N ds ps na ea ma x → DirectAnswer N ds ps nb na eb ea mb ma x
-  fitted q na ea ma x e w = record { answer = ap answer_of e ∙ sym zero; fit = λ _. w; silent = λ z. absurd (z zero); kept = λ z. absurd (z zero) }
-    where
-      zero : direct_tests N ds ps (length nb) (length eb) (length mb) ≡ pass
-      zero = sym asked ∙ ap answer_of q
+-- ---- the same as a number
+module _ (N : ℕ) (ds ps : List ℕ) (nb na : List ℤ) (eb ea : List ℕ) (mb ma : List ℤ) (k : ℕ) where
+  pub lengths-told : (r : Result DirectFit Refusal) → DirectAnswer N ds ps nb na eb ea mb ma r → k ≡ number_of r → LengthsAnswer N ds ps nb na eb ea mb ma k
+  lengths-told (Ok x) p e = record {
+    number = e ∙ ap number p.answer;
+    tops = λ _. p.fit.tops;
+    bottoms = λ _. p.fit.bottoms;
+    rounded = λ _. p.fit.rounded;
+    kept = λ n. absurd (n (sym p.answer));
+  }
+  lengths-told (Err q) p e = record {
+    number = e ∙ ap number p.answer;
+    tops = λ z. absurd (not_pass q (p.answer ∙ z));
+    bottoms = λ z. absurd (not_pass q (p.answer ∙ z));
+    rounded = λ z. absurd (not_pass q (p.answer ∙ z));
+    kept = λ _. p.kept;
+  }

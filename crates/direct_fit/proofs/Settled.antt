@@ -7,31 +7,37 @@ use lib.IntN.{ℤ}
 use lib.ListN.{length}
 use Rattle.verdict.specs.Answer.{pass}
 use Rattle.exact.proofs.Decide.{by_cases}
-use Rattle.verdict.specs.declared.Verdict.{Verdict}
-use Rattle.verdict.proofs.Answers.{passes, same_answer}
+use Rattle.std.specs.Prelude.{Result, Ok, Err}
+use Rattle.verdict.specs.declared.Refusal.{Refusal}
+use Rattle.verdict.proofs.Answers.{passes, not_pass, one_result}
 use Rattle.direct_theory.specs.Tests.{direct_tests}
 use Rattle.direct_fit.specs.declared.DirectFit.{DirectFit}
-use Rattle.direct_fit.specs.Answers.{DirectAnswer, LengthsAnswer}
+use Rattle.direct_fit.specs.Answers.{Resolves, DirectAnswer, LengthsAnswer}
 
-same-fit : (x y : DirectFit) → x.verdict ≡ y.verdict → x.r ≡ y.r → x.h ≡ y.h → x ≡ y
-same-fit x y e r h = ap₂ (λ (v : Verdict) (a : ℤ). whole v a x.h) e r ∙ ap (λ (b : ℤ). whole y.verdict y.r b) h
+same-fit : (x y : DirectFit) → x.r ≡ y.r → x.h ≡ y.h → x ≡ y
+same-fit x y r h = ap₂ (λ (a b : ℤ). whole a b) r h
   where
-    whole : Verdict → ℤ → ℤ → DirectFit
-    whole v a b = record { verdict = v; r = a; h = b }
+    whole : ℤ → ℤ → DirectFit
+    whole a b = record { r = a; h = b }
 
 module _ (N : ℕ) (ds ps : List ℕ) (nb na na' : List ℤ) (eb ea ea' : List ℕ) (mb ma ma' : List ℤ) where
   here : Dec (direct_tests N ds ps (length nb) (length eb) (length mb) ≡ pass)
   here = passes (direct_tests N ds ps (length nb) (length eb) (length mb))
 
-  pub one-direct : (x y : DirectFit) → DirectAnswer N ds ps nb na eb ea mb ma x → DirectAnswer N ds ps nb na' eb ea' mb ma' y
+  buffers : (x y : Result DirectFit Refusal) → DirectAnswer N ds ps nb na eb ea mb ma x → DirectAnswer N ds ps nb na' eb ea' mb ma' y
+      → (na ≡ na') × (ea ≡ ea') × (ma ≡ ma')
+  buffers (Ok x) (Ok y) p q = (p.fit.tops ∙ sym q.fit.tops, p.fit.bottoms ∙ sym q.fit.bottoms, p.fit.rounded ∙ sym q.fit.rounded)
+  buffers (Ok x) (Err r) p q = absurd (not_pass r (q.answer ∙ sym p.answer))
+  buffers (Err r) (Ok y) p q = absurd (not_pass r (p.answer ∙ sym q.answer))
+  buffers (Err r) (Err t) p q = (p.kept.0 ∙ sym q.kept.0, p.kept.1 ∙ sym q.kept.1, p.kept.2 ∙ sym q.kept.2)
+
+  pub one-direct : (x y : Result DirectFit Refusal) → DirectAnswer N ds ps nb na eb ea mb ma x → DirectAnswer N ds ps nb na' eb ea' mb ma' y
       → (x ≡ y) × (na ≡ na') × (ea ≡ ea') × (ma ≡ ma')
-  one-direct x y p q = (
-    same-fit x y (same_answer x.verdict y.verdict (p.answer ∙ sym q.answer))
-        (by_cases here (λ z. (p.fit z).r ∙ sym (q.fit z).r) (λ z. (p.silent z).0 ∙ sym (q.silent z).0))
-        (by_cases here (λ z. (p.fit z).h ∙ sym (q.fit z).h) (λ z. (p.silent z).1 ∙ sym (q.silent z).1)),
-    by_cases here (λ z. (p.fit z).tops ∙ sym (q.fit z).tops) (λ z. (p.kept z).0 ∙ sym (q.kept z).0),
-    by_cases here (λ z. (p.fit z).bottoms ∙ sym (q.fit z).bottoms) (λ z. (p.kept z).1 ∙ sym (q.kept z).1),
-    by_cases here (λ z. (p.fit z).rounded ∙ sym (q.fit z).rounded) (λ z. (p.kept z).2 ∙ sym (q.kept z).2),
+  one-direct x y p q = let (tops, bottoms, rounded) = buffers x y p q in (
+    one_result (Resolves N ds ps na ea ma) (Resolves N ds ps na' ea' ma') (λ a b f g. same-fit a b (f.r ∙ sym g.r) (f.h ∙ sym g.h)) x y (p.answer ∙ sym q.answer) p.fit q.fit,
+    tops,
+    bottoms,
+    rounded,
   )
 
   pub one-lengths : (x y : ℕ) → LengthsAnswer N ds ps nb na eb ea mb ma x → LengthsAnswer N ds ps nb na' eb ea' mb ma' y

@@ -1,7 +1,8 @@
--- What `fit_resolved` and `resolved_lengths` hand back.
-use Rattle.std.specs.Prelude.{◌≡◌, List, ℕ, ℤ, pos, length}
+-- What `fit_resolved` and `resolved_lengths` give.
+use Rattle.std.specs.Prelude.{◌≡◌, List, ℕ, ℤ, Result, IfOk, IfErr, length}
 use Rattle.exact.specs.Table.{table}
 use Rattle.verdict.specs.Answer.{pass, number, answer_of}
+use Rattle.verdict.specs.declared.Refusal.{Refusal}
 use Rattle.fit_theory.specs.Quantities.{h_of}
 use Rattle.direct_theory.specs.Lengths.{top_of, bottom_of, thousandth_of, square_of, Direct}
 use Rattle.direct_theory.specs.Tests.{direct_tests}
@@ -16,12 +17,11 @@ pub record Resolves (N : ℕ) (ds ps : List ℕ) (ns : List ℤ) (es : List ℕ)
   pub h : x.h ≡ h_of N ds ps
   pub direct : Direct N ds ps
 
--- the whole answer; a refusal reports nothing and leaves the three buffers as they were
-pub record DirectAnswer (N : ℕ) (ds ps : List ℕ) (nb na : List ℤ) (eb ea : List ℕ) (mb ma : List ℤ) (x : DirectFit) : Type 0 where
-  pub answer : answer_of x.verdict ≡ direct_tests N ds ps (length nb) (length eb) (length mb)
-  pub fit : direct_tests N ds ps (length nb) (length eb) (length mb) ≡ pass → Resolves N ds ps na ea ma x
-  pub silent : (direct_tests N ds ps (length nb) (length eb) (length mb) ≡ pass → ⊥) → (x.r ≡ pos 0) × (x.h ≡ pos 0)
-  pub kept : (direct_tests N ds ps (length nb) (length eb) (length mb) ≡ pass → ⊥) → (na ≡ nb) × (ea ≡ eb) × (ma ≡ mb)
+-- the whole answer; a refusal leaves the three buffers as they were
+pub record DirectAnswer (N : ℕ) (ds ps : List ℕ) (nb na : List ℤ) (eb ea : List ℕ) (mb ma : List ℤ) (r : Result DirectFit Refusal) : Type 0 where
+  pub answer : answer_of r ≡ direct_tests N ds ps (length nb) (length eb) (length mb)
+  pub fit : IfOk r (λ x. Resolves N ds ps na ea ma x)
+  pub kept : IfErr r (λ _. (na ≡ nb) × (ea ≡ eb) × (ma ≡ mb))
 
 -- the same without R and H: the number, and the three buffers
 pub record LengthsAnswer (N : ℕ) (ds ps : List ℕ) (nb na : List ℤ) (eb ea : List ℕ) (mb ma : List ℤ) (r : ℕ) : Type 0 where

@@ -12,10 +12,9 @@ ghost use Rattle.direct_fit.specs.Answers.{Resolves, DirectAnswer, LengthsAnswer
 
 use verdict::{Place, Reason, Refusal, Verdict};
 
-// R and H of a resolved tree's fit; of a refusal the verdict, and zeros.
+// R and H of a resolved tree's fit.
 #[derive(Clone, Copy)]
 pub struct DirectFit {
-    pub verdict: Verdict,
     pub r: i64,
     pub h: i64,
 }
@@ -33,8 +32,7 @@ pub fn resolve(
     requires shaped { Shaped n distances.now parents.now }
     requires parents_value { direct_only n distances.now parents.now ≡ pass }
     requires numerators_len { (length numerators.old ≡ length parents.now) × (length denominators.old ≡ length parents.now) × (length rounded.old ≡ length parents.now) }
-    ensures verdict_value { result.verdict ≡ Verdict.Accepted }
-    ensures resolves { Resolves n distances.now parents.now numerators.new denominators.new rounded.new result }
+    ensures { Resolves n distances.now parents.now numerators.new denominators.new rounded.new result }
 {
     let strains = n as usize;
     let edges = parents.len();
@@ -53,7 +51,6 @@ pub fn resolve(
     let squares = fit_numbers::sum_squares(strains, edges, distances, parents, &worked);
     tables::copy_out(edges, &worked, rounded);
     DirectFit {
-        verdict: Verdict::Accepted,
         r: squares.r,
         h: squares.h,
     }
@@ -66,12 +63,12 @@ fn check_degrees(n: u32, parents: &[u8]) -> Verdict
 {
     let w = tree::first_children_out(n as usize, parents, 0);
     if w <= parents.len() {
-        return Verdict::Refused(Refusal {
+        return Err(Refusal {
             reason: Reason::Unresolved,
             place: Place::Vertex(w),
         });
     }
-    Verdict::Accepted
+    Ok(())
 }
 
 // 25, then 26 for any pair that is missing.
@@ -79,42 +76,15 @@ pub fn check_resolved(n: u32, distances: &[u16], parents: &[u8]) -> Verdict
     requires { Shaped n distances.now parents.now }
     ensures { answer_of result ≡ direct_only n distances.now parents.now }
 {
-    let degrees = check_degrees(n, parents);
-    if let Verdict::Refused(refusal) = degrees {
-        return Verdict::Refused(refusal);
-    }
-    if matrix::some_missing(distances) {
-        return Verdict::Refused(Refusal {
-            reason: Reason::Unmeasured,
-            place: Place::Nowhere,
-        });
-    }
-    Verdict::Accepted
+    check_degrees(n, parents)?;
+    refusing::test(Reason::Unmeasured, matrix::some_missing(distances))
 }
 
 // 15: some of three buffers of a, b and c entries does not have one for each edge.
 fn check_buffers(edges: usize, a: usize, b: usize, c: usize) -> Verdict
     ensures { answer_of result ≡ test 15 (buffers_out edges a b c) }
 {
-    if a != edges {
-        return Verdict::Refused(Refusal {
-            reason: Reason::Buffer,
-            place: Place::Nowhere,
-        });
-    }
-    if b != edges {
-        return Verdict::Refused(Refusal {
-            reason: Reason::Buffer,
-            place: Place::Nowhere,
-        });
-    }
-    if c != edges {
-        return Verdict::Refused(Refusal {
-            reason: Reason::Buffer,
-            place: Place::Nowhere,
-        });
-    }
-    Verdict::Accepted
+    refusing::test(Reason::Buffer, a != edges || b != edges || c != edges)
 }
 
 // What a matrix and a tree are asked before the fit, with buffers of a, b and c entries: 4, 6 to 10, 16, 25, 26, 15, the
@@ -122,13 +92,9 @@ fn check_buffers(edges: usize, a: usize, b: usize, c: usize) -> Verdict
 fn check_direct(n: u32, distances: &[u16], parents: &[u8], a: usize, b: usize, c: usize) -> Verdict
     ensures { answer_of result ≡ direct_tests n distances.now parents.now a b c }
 {
-    let shaped = posting::check_shapes(n, distances, parents);
-    if let Verdict::Refused(refusal) = shaped {
-        return Verdict::Refused(refusal);
-    }
-    let resolved = check_resolved(n, distances, parents);
-    let lent = check_buffers(parents.len(), a, b, c);
-    verdict::or_else(resolved, lent)
+    posting::check_shapes(n, distances, parents)?;
+    check_resolved(n, distances, parents)?;
+    check_buffers(parents.len(), a, b, c)
 }
 
 // The fit of a resolved tree beside a complete matrix: 4, 6 to 10, 16, 25, 26, 15, the first that applies; a refusal leaves
@@ -140,25 +106,18 @@ pub fn fit_resolved(
     numerators: &mut [i64],
     denominators: &mut [u32],
     rounded: &mut [i64],
-) -> DirectFit
+) -> Result<DirectFit, Refusal>
     ensures { DirectAnswer n distances.now parents.now numerators.old numerators.new denominators.old denominators.new rounded.old rounded.new result }
 {
-    let found = check_direct(
+    check_direct(
         n,
         distances,
         parents,
         numerators.len(),
         denominators.len(),
         rounded.len(),
-    );
-    if let Verdict::Refused(refusal) = found {
-        return DirectFit {
-            verdict: Verdict::Refused(refusal),
-            r: 0,
-            h: 0,
-        };
-    }
-    resolve(n, distances, parents, numerators, denominators, rounded)
+    )?;
+    Ok(resolve(n, distances, parents, numerators, denominators, rounded))
 }
 
 // The same as a number, 0 where the tree is fitted. The crate direct_fit_c exports it to C.
@@ -173,6 +132,5 @@ pub fn resolved_lengths(
     ensures { LengthsAnswer n distances.now parents.now numerators.old numerators.new denominators.old denominators.new rounded.old rounded.new result }
 {
     let found = fit_resolved(n, distances, parents, numerators, denominators, rounded);
-    let answer = found.verdict;
-    verdict::number(answer)
+    verdict::number(&found)
 }

@@ -92,9 +92,8 @@ pub fn fill(
     requires numerators_len { (length numerators.old ≡ length parents.now) × (length denominators.old ≡ length parents.now) }
     ensures { Lowered (length parents.now) (length_by n (length parents.now) (parent_of parents.now) (entry_of sums.now)) numerators.new denominators.new result }
 {
-    let mut rounded = tree::edge_zeros();
-    let mut v = 0;
-    while v < parents.len() {
+    let mut rounded: [i64; Tree::MAX_EDGES] = arrays::filled(0);
+    for v in 0..parents.len() {
         let ratio = edge_length(n, parents, masks, children, sums, v);
         let top = ratio.top;
         let bottom = ratio.bottom as u32;
@@ -102,7 +101,6 @@ pub fn fill(
         numerators[v] = top;
         denominators[v] = bottom;
         rounded[v] = thousandths;
-        v += 1;
     }
     rounded
 }

@@ -61,10 +61,8 @@ fn weighted(acc: u64, edges: usize, x: &[i64], y: &[i64]) -> u64
     ensures { Modulo result (pos acc +ℤ sum edges (λ v. entry_of x.now v *ℤ entry_of y.now v)) }
 {
     let mut held = acc;
-    let mut v = 0;
-    while v < edges {
+    for v in 0..edges {
         held = gather(held, x[v], y[v]);
-        v += 1;
     }
     held
 }
@@ -76,11 +74,9 @@ fn squares(distances: &[u16], count: usize) -> u64
     ensures { (pos result ≡ sum count (λ k. square_at distances.now k)) × (result ≤ max_squares) }
 {
     let mut sum: u64 = 0;
-    let mut k = 0;
-    while k < count {
+    for k in 0..count {
         let far = distances[k] as u64;
         sum = sum + far * far;
-        k += 1;
     }
     sum
 }
@@ -105,11 +101,9 @@ fn mix(
     requires mixable { Mixable edges a b sums.old paths.now }
     ensures { Mixed edges a b sums.old paths.now sums.new }
 {
-    let mut v = 0;
-    while v < edges {
+    for v in 0..edges {
         let mixed = blend(a, sums[v], b, paths[v]);
         sums[v] = mixed;
-        v += 1;
     }
 }
 
@@ -149,19 +143,12 @@ fn r_of(
     requires fits63 { Fits63 (sum_r (pairs n) edges (parts_pair (parent_of parents.now)) (entry_at distances.now) (entry_of lengths.now)) }
     ensures { result ≡ sum_r (pairs n) edges (parts_pair (parent_of parents.now)) (entry_at distances.now) (entry_of lengths.now) }
 {
-    let mut paths = path_sums::no_sums();
+    let mut paths: [i64; Tree::MAX_VERTICES] = arrays::filled(0);
     path_sums::path_sums(n, edges, parents, lengths, &mut paths);
     mix(edges, 2000, 1, taken, &paths);
     let whole = squares(distances, matrix::pair_count(n as u32) as usize);
     let mixed = &taken[..];
     weighted(1_000_000 * whole, edges, lengths, mixed) as i64
-}
-
-// 1 for each edge: the path over these is the number of edges on it.
-pub fn ones() -> [i64; Tree::MAX_EDGES]
-    ensures { result ≡ table max_edges (λ _. pos 1) }
-{
-    [1; Tree::MAX_EDGES]
 }
 
 // H: the sum of the squares of the numbers of edges that part the pairs.
@@ -170,8 +157,8 @@ fn h_of(n: usize, edges: usize, parents: &[u8]) -> i64
     requires fits63 { Fits63 (sum_h (pairs n) edges (parts_pair (parent_of parents.now))) }
     ensures { result ≡ sum_h (pairs n) edges (parts_pair (parent_of parents.now)) }
 {
-    let one_each = ones();
-    let mut paths = path_sums::no_sums();
+    let one_each: [i64; Tree::MAX_EDGES] = arrays::filled(1);
+    let mut paths: [i64; Tree::MAX_VERTICES] = arrays::filled(0);
     path_sums::path_sums(n, edges, parents, &one_each, &mut paths);
     weighted(0, edges, &one_each, &paths) as i64
 }
@@ -194,7 +181,7 @@ pub fn remainders(
     ensures { EdgeTable edges (edge_sum (pairs n) edges (parts_pair (parent_of parents.now)) (entry_at distances.now) (pos d) (entry_of numerators.now)) sums.new }
 {
     splits::splits(n, edges, distances, parents, sums);
-    let mut paths = path_sums::no_sums();
+    let mut paths: [i64; Tree::MAX_VERTICES] = arrays::filled(0);
     path_sums::path_sums(n, edges, parents, numerators, &mut paths);
     mix(edges, d as i64, -1, sums, &paths);
 }
@@ -204,9 +191,9 @@ fn taken_off(n: usize, edges: usize, distances: &[u16], parents: &[u8]) -> [i64;
     requires { Splittable n edges distances.now parents.now }
     ensures { TakenOff n edges distances.now (parent_of parents.now) result }
 {
-    let mut sums = tree::edge_zeros();
+    let mut sums: [i64; Tree::MAX_EDGES] = arrays::filled(0);
     splits::splits(n, edges, distances, parents, &mut sums);
-    let none = path_sums::no_sums();
+    let none: [i64; Tree::MAX_VERTICES] = arrays::filled(0);
     mix(edges, -1, 0, &mut sums, &none);
     sums
 }

@@ -31,18 +31,16 @@ fn shares(
     ensures result_len { (length result ≡ max_vertices) × (mass max_vertices result < 2 ^ 63) }
     ensures by_index { (v : ℕ) → v < edges → under (parent_of parents.now) result v ≡ pairs n (share edges d distances.now parents.now numerators.now v) }
 {
-    let mut own = meeting::no_shares();
-    let mut ways = meeting::no_ways();
+    let mut own: [i64; Tree::MAX_VERTICES] = arrays::filled(0);
+    let mut ways: [i64; matrix::Matrix::MAX_STRAINS] = arrays::filled(0);
     let mut come = clusters::own_bits(n);
-    let mut v = 0;
-    while v < edges {
+    for v in 0..edges {
         let here = masks[v];
         let m = parents[v] as usize;
         let there = come[m];
         meeting::carry(&mut ways, here, numerators[v]);
         meeting::meet(n, d, distances, &ways, here, there, m, &mut own);
         come[m] = there | here;
-        v += 1;
     }
     own
 }
@@ -59,13 +57,11 @@ fn handed_up(
     requires own_len { (length own.old ≡ max_vertices) × (mass max_vertices own.old < 2 ^ 63) }
     ensures { HandedUp edges parents.now own.old result }
 {
-    let mut sums = tree::edge_zeros();
-    let mut v = 0;
-    while v < edges {
+    let mut sums: [i64; Tree::MAX_EDGES] = arrays::filled(0);
+    for v in 0..edges {
         let whole = own[v];
         sums[v] = whole;
         meeting::put(own, parents[v] as usize, whole);
-        v += 1;
     }
     sums
 }

@@ -4,33 +4,26 @@
 ghost use Rattle.std.specs.Prelude.{◌≡◌, ◌+◌, ◌<◌, ◌≤◌, length};
 ghost use Rattle.endian.specs.Bytes.{number, twos_of, twos};
 
-// A byte as a wider number.
-fn wide(x: u8) -> u16
-    ensures { (result ≡ x) × (result < 256) }
-{
-    x as u16
-}
-
 // The number of two, four, eight bytes from `at` on.
 pub fn u16_at(s: &[u8], at: usize) -> u16
     requires { at + 2 ≤ length s.now }
     ensures { result ≡ number 2 s.now at }
 {
-    wide(s[at]) + wide(s[at + 1]) * 256
+    u16::from(s[at]) + u16::from(s[at + 1]) * 256
 }
 
 pub fn u32_at(s: &[u8], at: usize) -> u32
     requires { at + 4 ≤ length s.now }
     ensures { result ≡ number 4 s.now at }
 {
-    (u16_at(s, at) as u32) + (u16_at(s, at + 2) as u32) * 65536
+    u32::from(u16_at(s, at)) + u32::from(u16_at(s, at + 2)) * 65536
 }
 
 pub fn u64_at(s: &[u8], at: usize) -> u64
     requires { at + 8 ≤ length s.now }
     ensures { result ≡ number 8 s.now at }
 {
-    (u32_at(s, at) as u64) + (u32_at(s, at + 4) as u64) * 4294967296
+    u64::from(u32_at(s, at)) + u64::from(u32_at(s, at + 4)) * 4294967296
 }
 
 // The number whose two's complement is x.

@@ -9,13 +9,6 @@ ghost use Rattle.std.specs.Prelude.{◌≡◌, ◌+◌, ◌≤◌, ◌<◌, leng
 // The most bytes that are read, of all the sheets together.
 const SHEETS: usize = 524_288;
 
-// Zeros, room for that many bytes.
-fn room() -> [u8; SHEETS]
-    ensures { SHEETS ≡ length result }
-{
-    [0; SHEETS]
-}
-
 // A line end becomes a space.
 fn blank(text: &mut [u8], k: usize)
     requires { k < length text.old }
@@ -31,10 +24,8 @@ fn in_one_line(text: &mut [u8], end: usize)
     requires { end ≤ length text.old }
     ensures { length text.new ≡ length text.old }
 {
-    let mut k = 1;
-    while k < end {
+    for k in 1..end {
         blank(text, k - 1);
-        k += 1;
     }
 }
 
@@ -42,18 +33,16 @@ fn in_one_line(text: &mut [u8], end: usize)
 fn text_of(kind: u8, sheet: &[u8], text: &mut [u8]) -> usize
     ensures { (result ≤ length text.new) × (length text.new ≡ length text.old) }
 {
-    if kind == 0 {
-        return pages::sheet_print(sheet, text);
+    match kind {
+        0 => pages::sheet_print(sheet, text),
+        2 => pages::sheet_print0(sheet, text),
+        _ => pages::unfitted_print(sheet, text),
     }
-    if kind == 2 {
-        return pages::sheet_print0(sheet, text);
-    }
-    pages::unfitted_print(sheet, text)
 }
 
 // Writes the print of a sheet out, in one line; whether it went out.
 fn print_line(rt: &(impl Print + Eprint), kind: u8, sheet: &[u8]) -> bool {
-    let mut text = pages::page();
+    let mut text: [u8; pages::PAGE] = arrays::filled(0);
     let written = text_of(kind, sheet, &mut text);
     in_one_line(&mut text, written);
     streams::put_out(rt, written, &text)
@@ -82,6 +71,7 @@ fn length_at(s: &[u8], at: usize) -> usize
 // A line for each sheet, up to the first that cannot be written.
 fn print_all(rt: &(impl Print + Eprint), s: &[u8]) {
     let mut at = 0;
+    // A sheet's length stands before it, and says where the next begins.
     while at + 4 <= s.len() {
         let size = length_at(s, at);
         let start = at + 4;
@@ -94,9 +84,8 @@ fn print_all(rt: &(impl Print + Eprint), s: &[u8]) {
 }
 
 fn main(rt: HostRuntime) {
-    let mut space = room();
-    let taken = streams::take_in(&rt, &mut space);
-    if taken.whole {
-        print_all(&rt, &space[..taken.count]);
+    let mut space: [u8; SHEETS] = arrays::filled(0);
+    if let Ok(count) = streams::take_in(&rt, &mut space) {
+        print_all(&rt, &space[..count]);
     }
 }

@@ -26,20 +26,11 @@ fn edge_lines(
     ensures { Wrote text.old text.new at (edge_lines k (λ v. entry_of numerators.now v ∷ entry_of rounded.now v ∷ [])) result }
 {
     let mut next = at;
-    let mut v = 0;
-    while v < k {
+    for v in 0..k {
         let values = [v as i64, numerators[v], rounded[v]];
         next = lines::line(text, next, b"edge", &values);
-        v += 1;
     }
     next
-}
-
-// A denominator as a number of a line.
-fn whole(x: u32) -> i64
-    ensures { result ≡ pos x }
-{
-    x as i64
 }
 
 // A line for each of the first k edges: the edge, its numerator and its denominator, m.
@@ -56,11 +47,9 @@ fn fraction_lines(
     ensures { Wrote text.old text.new at (edge_lines k (λ v. entry_of tops.now v ∷ pos (get_or bottoms.now v 0) ∷ entry_of rounded.now v ∷ [])) result }
 {
     let mut next = at;
-    let mut v = 0;
-    while v < k {
-        let values = [v as i64, tops[v], whole(bottoms[v]), rounded[v]];
+    for v in 0..k {
+        let values = [v as i64, tops[v], i64::from(bottoms[v]), rounded[v]];
         next = lines::line(text, next, b"edge", &values);
-        v += 1;
     }
     next
 }

@@ -3,7 +3,8 @@
 use mathlib.Core.Path.{◌≡◌, sym, ap, ap₂, ◌∙◌, subst}
 use mathlib.Core.Bool.{Bool}
 use mathlib.Core.List.{List, [], ◌∷◌}
-use Prim.Native.Nat.{ℕ, suc, ◌≤◌, ◌<◌, ◌^◌}
+use Prim.Native.Nat.{ℕ, suc, ◌+◌, ◌≤◌, ◌<◌, ◌^◌}
+use native.Mathlib.Numerals.{add-one}
 use native.Mathlib.Omega.{arith}
 use lib.IntN.{ℤ, pos, nat_abs, ◌+ℤ◌, ◌-ℤ◌, ◌*ℤ◌}
 use mir.Syntax.{w64}
@@ -18,8 +19,6 @@ use Rattle.exact.proofs.Sum.{pairs-sums, S-cong, S-sq}
 use Rattle.exact.proofs.Sweep.{sweep-step, sweep-nn, sweep-le, term-le}
 use Rattle.matrix.specs.Limits.{max_strains}
 use Rattle.tree_theory.specs.Limits.{max_edges}
-use Rattle.pairs.specs.declared.Pair.{Pair}
-use Rattle.pairs.proofs.Following.{Follows}
 use Rattle.fit_theory.proofs.Demand3.{h-high}
 use Rattle.exact.specs.Fits.{Fits63}
 use Rattle.inner_paths.proofs.Reaching.{few}
@@ -65,9 +64,8 @@ module _ (n : ℕ) (r : ℕ × ℕ → ℤ) (fits : Fits63 (pairs n (square_of r
       pub squares-fit : SFits w64 (s +ℤ to_z w64 (of_z w64 (off *ℤ off)))
       squares-fit = fits_abs (s +ℤ to_z w64 (of_z w64 (off *ℤ off))) near
 
-      pub squares-next : (p : Pair) → Follows i j p
-          → to_z w64 (of_z w64 (s +ℤ to_z w64 (of_z w64 (off *ℤ off)))) ≡ sweep (square_of r) p.j p.i
-      squares-next p k = back (s +ℤ to_z w64 (of_z w64 (off *ℤ off))) near ∙ more ∙ sweep-step (square_of r) j i ∙ sym (k.adds (square_of r))
+      pub squares-next : to_z w64 (of_z w64 (s +ℤ to_z w64 (of_z w64 (off *ℤ off)))) ≡ sweep (square_of r) j (i + 1)
+      squares-next = back (s +ℤ to_z w64 (of_z w64 (off *ℤ off))) near ∙ more ∙ ap (sweep (square_of r) j) (sym (add-one i))
 
 -- ---- H is small
 pub h_fits : (K : ℕ) → K ≤ max_edges → (parts : ℕ → ℕ × ℕ → Bool) (N : ℕ) → N ≤ max_strains → Fits63 (sum_h (pairs N) K parts)

@@ -2,7 +2,8 @@
 use mathlib.Core.Path.{◌≡◌, sym, ap, ap₂, ◌∙◌, subst}
 use mathlib.Core.Bool.{true}
 use mathlib.Core.List.{List}
-use Prim.Native.Nat.{ℕ, ◌<◌, ◌^◌}
+use Prim.Native.Nat.{ℕ, ◌+◌, ◌<◌, ◌^◌}
+use native.Mathlib.Numerals.{add-one}
 use native.Mathlib.Omega.{arith}
 use lib.IntN.{ℤ, pos, nat_abs, ◌+ℤ◌, ◌*ℤ◌, *ℤ-zero}
 use lib.ListN.{get_or}
@@ -16,8 +17,7 @@ use Rattle.matrix.specs.Limits.{missing}
 use Rattle.matrix.specs.Place.{distance, measured, place}
 use Rattle.matrix.proofs.Looking.{known_of}
 use Rattle.fit_theory.specs.Quantities.{parts_in}
-use Rattle.pairs.specs.declared.Pair.{Pair}
-use Rattle.pairs.proofs.Following.{Follows}
+use Rattle.exact.proofs.Sweep.{sweep-start, sweep-step, sweep-column}
 use Rattle.pairs.specs.Ready.{Ready, InRange, remainder_at}
 use Rattle.fit_theory.proofs.Ranges.{product-range}
 use Rattle.pairs.proofs.Bounded.{in_bounds}
@@ -50,6 +50,10 @@ module _ {N K D : ℕ} {ds ps cs : List ℕ} {ns : List ℤ} (w : Ready N K D ds
   term-whole p = back (term_of K D ds ps ns p) (omega (arith, product-range (in_bounds w w') (parts_in ds ps) p))
 
 -- one term more, for any terms f
-pub gathered_next : (f : ℕ × ℕ → ℤ) (i j acc r : ℕ) (t : ℤ) (p : Pair) → Modulo acc (sweep f j i) → Modulo r (pos acc +ℤ t) → t ≡ f (i, j) → Follows i j p
-    → Modulo r (sweep f p.j p.i)
-gathered_next f i j acc r t p h g e k = subst (Modulo r) (ap (λ z. sweep f j i +ℤ z) e ∙ sym (k.adds f)) (modulo_chain t h g)
+pub gathered_next : (f : ℕ × ℕ → ℤ) (i j acc r : ℕ) (t : ℤ) → Modulo acc (sweep f j i) → Modulo r (pos acc +ℤ t) → t ≡ f (i, j)
+    → Modulo r (sweep f j (i + 1))
+gathered_next f i j acc r t h g e = subst (Modulo r) (ap (λ z. sweep f j i +ℤ z) e ∙ sym (sweep-step f j i) ∙ ap (sweep f j) (sym (add-one i))) (modulo_chain t h g)
+
+-- nothing stands before the pair 0 1
+pub swept_start : (f : ℕ × ℕ → ℤ) → sweep f 1 0 ≡ pos 0
+swept_start f = sweep-column f 0 ∙ sweep-start f

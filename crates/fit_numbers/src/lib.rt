@@ -15,7 +15,7 @@ ghost use Rattle.pairs.specs.Ready.{InRange, remainder_at};
 ghost use Rattle.exact.specs.Fits.{Fits63};
 ghost use Rattle.fit_numbers.specs.Terms.{Summable, term_of};
 
-use edge_numbers::Figures;
+use edge_numbers::{Figures, Squared};
 use inner_paths::SPOTS;
 use matrix::Matrix;
 use tree::Tree;
@@ -27,10 +27,8 @@ pub fn total(edges: usize, numerators: &[i64]) -> i64
     ensures { result ≡ sum edges (entry_of numerators.now) }
 {
     let mut sum: i64 = 0;
-    let mut edge = 0;
-    while edge < edges {
+    for edge in 0..edges {
         sum += numerators[edge];
-        edge += 1;
     }
     sum
 }
@@ -41,11 +39,9 @@ pub fn rounded(edges: usize, d: u32, numerators: &[i64]) -> [i64; Tree::MAX_EDGE
     requires in_range { InRange edges numerators.now }
     ensures { result ≡ table max_edges (λ v. cond (ltb v edges) (nearest d (entry_of numerators.now v)) (pos 0)) }
 {
-    let mut lengths = tree::edge_zeros();
-    let mut v = 0;
-    while v < edges {
+    let mut lengths: [i64; Tree::MAX_EDGES] = arrays::filled(0);
+    for v in 0..edges {
         lengths[v] = arithmetic::thousandths(numerators[v], d);
-        v += 1;
     }
     lengths
 }
@@ -116,14 +112,11 @@ pub fn sum_f(
 {
     let between = inner_paths::inner_paths(n, edges, parents, numerators);
     let mut acc: u64 = 0;
-    let mut i = 0;
-    let mut j = 1;
-    while j < n {
-        let term = product(n, edges, d, distances, parents, numerators, &between, i, j);
-        acc = arithmetic::accumulate(acc, term);
-        let next = pairs::next_pair(i, j);
-        i = next.i;
-        j = next.j;
+    for j in 1..n {
+        for i in 0..j {
+            let term = product(n, edges, d, distances, parents, numerators, &between, i, j);
+            acc = arithmetic::accumulate(acc, term);
+        }
     }
     acc as i64
 }
@@ -136,24 +129,13 @@ fn sum_x(n: usize, edges: usize, d: u32, distances: &[u16], parents: &[u8], x: &
 {
     let between = inner_paths::inner_paths(n, edges, parents, x);
     let mut sum: i64 = 0;
-    let mut i = 0;
-    let mut j = 1;
-    while j < n {
-        let off = remainder(n, edges, d, distances, parents, x, &between, i, j);
-        sum += off * off;
-        let next = pairs::next_pair(i, j);
-        i = next.i;
-        j = next.j;
+    for j in 1..n {
+        for i in 0..j {
+            let off = remainder(n, edges, d, distances, parents, x, &between, i, j);
+            sum += off * off;
+        }
     }
     sum
-}
-
-// The two sums of squares over the measured pairs. R: of 1000·d less the path over the rounded lengths. H: of the
-// number of edges that part the pair.
-#[derive(Clone, Copy)]
-pub struct SquareSums {
-    pub r: i64,
-    pub h: i64,
 }
 
 // Pair by pair: R is X over thousandths, and H is X over ones with no distances.
@@ -163,14 +145,14 @@ fn squares_by_pairs(
     distances: &[u16],
     parents: &[u8],
     lengths: &[i64],
-) -> SquareSums
+) -> Squared
     requires summable { Summable n edges 1000 distances.now parents.now lengths.now }
     requires fits63 { Fits63 (sum_r (pairs n) edges (parts_in distances.now parents.now) (distance distances.now) (entry_of lengths.now)) }
     ensures r_value { result.r ≡ sum_r (pairs n) edges (parts_in distances.now parents.now) (distance distances.now) (entry_of lengths.now) }
     ensures h_value { result.h ≡ sum_h (pairs n) edges (parts_in distances.now parents.now) }
 {
-    let one_each = edge_numbers::ones();
-    SquareSums {
+    let one_each: [i64; Tree::MAX_EDGES] = arrays::filled(1);
+    Squared {
         r: sum_x(n, edges, 1000, distances, parents, lengths),
         h: sum_x(n, edges, 0, distances, parents, &one_each),
     }
@@ -183,7 +165,7 @@ pub fn sum_squares(
     distances: &[u16],
     parents: &[u8],
     lengths: &[i64],
-) -> SquareSums
+) -> Squared
     requires summable { Summable n edges 1000 distances.now parents.now lengths.now }
     requires fits63 { Fits63 (sum_r (pairs n) edges (parts_in distances.now parents.now) (distance distances.now) (entry_of lengths.now)) }
     ensures r_value { result.r ≡ sum_r (pairs n) edges (parts_in distances.now parents.now) (distance distances.now) (entry_of lengths.now) }
@@ -192,11 +174,7 @@ pub fn sum_squares(
     if matrix::some_missing(distances) {
         return squares_by_pairs(n, edges, distances, parents, lengths);
     }
-    let squares = edge_numbers::square_sums(n, edges, distances, parents, lengths);
-    SquareSums {
-        r: squares.r,
-        h: squares.h,
-    }
+    edge_numbers::square_sums(n, edges, distances, parents, lengths)
 }
 
 // F of the lengths, and the sums of squares of their rounding: by the edges where no pair is missing, else pair by pair.

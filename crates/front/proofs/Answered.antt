@@ -10,11 +10,9 @@ use lib.ListN.{length}
 use Rattle.exact.proofs.Fill.{length-table}
 use Rattle.verdict.specs.declared.Reason.TheVariants.{Strains}
 use Rattle.verdict.specs.declared.Place.TheVariants.{Nowhere}
-use Rattle.verdict.specs.declared.Refusal.{Refusal}
-use Rattle.verdict.specs.declared.Verdict.{Verdict}
-use Rattle.verdict.specs.declared.Verdict.TheVariants.{Accepted, Refused}
-use Rattle.verdict.specs.Answer.{Answer, pass, fault, answer_of, refusal_of, test, ◌or_else◌}
-use Rattle.verdict.proofs.Answers.{or_else_pass, not_pass}
+use Rattle.std.specs.Prelude.{Err}
+use Rattle.verdict.specs.Answer.{Answer, pass, fault, test, ◌or_else◌}
+use Rattle.verdict.proofs.Answers.{or_else_pass}
 use Rattle.matrix.specs.Limits.{min_strains, max_strains}
 use Rattle.matrix.specs.Place.{pair_count}
 use Rattle.matrix.specs.Tests.{matrix_tests}
@@ -22,10 +20,9 @@ use Rattle.tree_theory.specs.Limits.{max_edges}
 use Rattle.fit_theory.specs.Tests.{shape_tests, seen_tests, posted_tests}
 use Rattle.fit_theory.specs.Stands.{Shaped, Posted}
 use Rattle.fit_theory.proofs.Exactly.{→shaped, →posted}
-use Rattle.front.specs.declared.Front.{Front}
 use Rattle.front.specs.Holds.{strains_of, distances_of, vertices_of, parents_of}
 use Rattle.front.specs.Tests.{strains_differ, both_tests, pair_tests}
-use Rattle.front.specs.Reads.{FrontHeld, Blank, FrontAnswer}
+use Rattle.front.specs.Reads.{FrontAnswer}
 
 -- ---- matrix and tree that pass
 both-pass : (count : ℕ) (s : List ℕ) → pair_tests count s ≡ pass → both_tests count (strains_of s) (distances_of s) (parents_of s) ≡ pass
@@ -56,15 +53,8 @@ module _ (count : ℕ) (s : List ℕ) (z : pair_tests count s ≡ pass) where
       let e : length (parents_of s) ≡ vertices_of s - 1 = length-table (vertices_of s - 1) _ in
       omega (arith, pair-shaped.tree.most, pair-shaped.tree.few)
 
--- ---- a refusal has zeros everywhere
-module _ (count : ℕ) (s ds : List ℕ) (x : Front) where
-  refused-by : (r : Refusal) → (x.verdict ≡ Refused r) × Blank x → pair_tests count s ≡ refusal_of r → FrontAnswer count s ds x
-  refused-by r e f = record {
-    answer = ap answer_of e.0 ∙ sym f;
-    held = λ z. absurd (not_pass r (sym f ∙ z));
-    blank = λ _. e.1;
-  }
-
+-- ---- a refusal
+module _ (count : ℕ) (s ds : List ℕ) where
   -- more strains than a matrix may have
   many : max_strains < strains_of s → matrix_tests (strains_of s) (distances_of s) ≡ fault 6 Nowhere
   many h =
@@ -74,14 +64,8 @@ module _ (count : ℕ) (s ds : List ℕ) (x : Front) where
         lt-ltb max_strains (strains_of s) h,
       )
 
-  pub many-strains : (n : ℕ) → n ≡ strains_of s → max_strains < n → (x.verdict ≡ Refused (record { reason = Strains; place = Nowhere })) × Blank x → FrontAnswer count s ds x
-  many-strains n e h f =
-      refused-by (record { reason = Strains; place = Nowhere }) f
-      (ap (λ (k : Answer). k or_else test 8 (strains_differ s) or_else both_tests count (strains_of s) (distances_of s) (parents_of s)) (many (omega arith)))
-
-  module _ (v : Verdict) (f : answer_of v ≡ pair_tests count s) where
-    pub pair-refused : (r : Refusal) → v ≡ Refused r → (x.verdict ≡ Refused r) × Blank x → FrontAnswer count s ds x
-    pair-refused r g e = refused-by r e (sym f ∙ ap answer_of g)
-
-    pub pair_held : v ≡ Accepted → x.verdict ≡ Accepted → FrontHeld s ds x → FrontAnswer count s ds x
-    pair_held g e h = let t = sym f ∙ ap answer_of g in record { answer = ap answer_of e ∙ sym t; held = λ _. h; blank = λ n. absurd (n t) }
+  pub many-strains : (n : ℕ) → n ≡ strains_of s → max_strains < n → FrontAnswer count s ds (Err (record { reason = Strains; place = Nowhere }))
+  many-strains n e h = record {
+    answer = sym (ap (λ (k : Answer). k or_else test 8 (strains_differ s) or_else both_tests count (strains_of s) (distances_of s) (parents_of s)) (many (omega arith)));
+    held = tt;
+  }

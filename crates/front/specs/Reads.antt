@@ -1,8 +1,9 @@
--- What the reader of the matrix and the tree hands over: its answer, and, where that passes, what they hold, the distances in a lent table; zeros
--- where it does not, and nothing is said of the table.
-use Rattle.std.specs.Prelude.{◌≡◌, List, ℕ}
+-- What the reader of the matrix and the tree hands over: its answer, and, where that passes, what they hold, the distances in a lent
+-- table. Of a refused sheet nothing is said of the table.
+use Rattle.std.specs.Prelude.{◌≡◌, List, ℕ, Result, IfOk}
 use Rattle.exact.specs.Table.{padded}
-use Rattle.verdict.specs.Answer.{pass, answer_of}
+use Rattle.verdict.specs.Answer.{answer_of}
+use Rattle.verdict.specs.declared.Refusal.{Refusal}
 use Rattle.matrix.specs.Limits.{max_pairs}
 use Rattle.matrix.specs.Place.{pair_count}
 use Rattle.records.specs.Form.{start_of}
@@ -18,15 +19,7 @@ pub record FrontHeld (s ds : List ℕ) (r : Front) : Type 0 where
   pub parents : r.parents ≡ parents_at s
   pub end : r.end ≡ start_of s 2
 
--- zeros everywhere
-pub record Blank (r : Front) : Type 0 where
-  pub strains : r.strains ≡ 0
-  pub pairs : r.pairs ≡ 0
-  pub parents : r.parents ≡ 0
-  pub end : r.end ≡ 0
-
 -- the whole answer, in a sheet of so many records, and what the lent table is left with
-pub record FrontAnswer (count : ℕ) (s ds : List ℕ) (r : Front) : Type 0 where
-  pub answer : answer_of r.verdict ≡ pair_tests count s
-  pub held : pair_tests count s ≡ pass → FrontHeld s ds r
-  pub blank : (pair_tests count s ≡ pass → ⊥) → Blank r
+pub record FrontAnswer (count : ℕ) (s ds : List ℕ) (r : Result Front Refusal) : Type 0 where
+  pub answer : answer_of r ≡ pair_tests count s
+  pub held : IfOk r (λ f. FrontHeld s ds f)

@@ -9,7 +9,7 @@ ghost use Rattle.matrix.specs.Limits.{max_pairs};
 ghost use Rattle.matrix.specs.Tests.{matrix_tests};
 ghost use Rattle.records.specs.Form.{start_of, records_tests};
 ghost use Rattle.front.specs.Tests.{both_tests};
-ghost use Rattle.front.specs.Reads.{Blank, FrontAnswer};
+ghost use Rattle.front.specs.Reads.{FrontAnswer};
 
 use matrix::Matrix;
 use records::Layout;
@@ -18,7 +18,6 @@ use verdict::{Place, Reason, Refusal, Verdict};
 // What the two records hold beside the distances: N and how many pairs; where the parents of the tree start and end among the bytes.
 #[derive(Clone, Copy)]
 pub struct Front {
-    pub verdict: Verdict,
     pub strains: u32,
     pub pairs: usize,
     pub parents: usize,
@@ -30,32 +29,16 @@ fn posted(count: usize, n: u32, other: u32, distances: &[u16], parents: &[u8]) -
     ensures { answer_of result ≡ (matrix_tests n distances.now or_else test 8 (not (eqb other n)) or_else both_tests count n distances.now parents.now) }
 {
     if other != n {
-        let of_matrix = matrix::check_matrix(n, distances);
-        return verdict::or_else(
-            of_matrix,
-            Verdict::Refused(Refusal {
-                reason: Reason::Vertices,
-                place: Place::Nowhere,
-            }),
-        );
+        matrix::check_matrix(n, distances)?;
+        return Err(Refusal {
+            reason: Reason::Vertices,
+            place: Place::Nowhere,
+        });
     }
     if count > 2 {
         return posting::check_posting(n, distances, parents);
     }
     posting::check_shapes(n, distances, parents)
-}
-
-// A refusal, with zeros everywhere.
-fn refused(refusal: Refusal) -> Front
-    ensures { (result.verdict ≡ Verdict.Refused refusal) × Blank result }
-{
-    Front {
-        verdict: Verdict::Refused(refusal),
-        strains: 0,
-        pairs: 0,
-        parents: 0,
-        end: 0,
-    }
 }
 
 // What the matrix and the tree of a sheet of so many records hold, of which the tree starts at `tree` and ends at `end`: 6 to 10, 16, 26.
@@ -66,7 +49,7 @@ pub fn read_front(
     tree: usize,
     end: usize,
     distances: &mut [u16; Matrix::MAX_PAIRS],
-) -> Front
+) -> Result<Front, Refusal>
     requires s_value { (records_tests s.now 2 ≡ pass) × (tree ≡ start_of s.now 1) × (end ≡ start_of s.now 2) }
     requires distances_value { distances.old ≡ table max_pairs (λ _. 0) }
     ensures { FrontAnswer count s.now distances.new result }
@@ -74,26 +57,22 @@ pub fn read_front(
     let n = endian::u16_at(s, Layout::HEAD) as u32;
     let strains = n as usize;
     if strains > Matrix::MAX_STRAINS {
-        return refused(Refusal {
+        return Err(Refusal {
             reason: Reason::Strains,
             place: Place::Nowhere,
         });
     }
     let pairs = matrix::pair_count(n) as usize;
-    decoding::distances_into(s, Layout::HEAD + 2, strains, pairs, distances);
+    decoding::distances_into(s, Layout::HEAD + 2, strains, distances);
     let body = tree + Layout::HEAD;
     let of_tree = endian::u16_at(s, body) as u32;
     let parents = body + 4;
     let measured = &distances[..];
-    let of_pair = posted(count, n, of_tree, &measured[..pairs], &s[parents..end]);
-    if let Verdict::Refused(refusal) = of_pair {
-        return refused(refusal);
-    }
-    Front {
-        verdict: Verdict::Accepted,
+    posted(count, n, of_tree, &measured[..pairs], &s[parents..end])?;
+    Ok(Front {
         strains: n,
         pairs,
         parents,
         end,
-    }
+    })
 }

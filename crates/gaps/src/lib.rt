@@ -29,19 +29,10 @@ fn column(distances: &[u16], j: usize) -> u64
     ensures { result ≡ column_of distances.now j }
 {
     let mut mask = 0;
-    let mut i = 0;
-    while i < j {
+    for i in 0..j {
         mask += bit_of(distances[matrix::place(i, j)], i);
-        i += 1;
     }
     mask
-}
-
-// Zeros, by a function of its own: proofs then carry a name in place of every entry.
-fn no_columns() -> [u64; Matrix::MAX_STRAINS]
-    ensures { result ≡ table max_strains (λ _. 0) }
-{
-    [0; Matrix::MAX_STRAINS]
 }
 
 // That of each strain.
@@ -49,11 +40,9 @@ fn columns(n: usize, distances: &[u16]) -> [u64; Matrix::MAX_STRAINS]
     requires { (n ≤ max_strains) × (pair_count n ≤ length distances.now) }
     ensures { result ≡ table max_strains (λ j. cond (ltb j n) (column_of distances.now j) 0) }
 {
-    let mut masks = no_columns();
-    let mut k = 0;
-    while k < n {
+    let mut masks: [u64; Matrix::MAX_STRAINS] = arrays::filled(0);
+    for k in 0..n {
         masks[k] = column(distances, k);
-        k += 1;
     }
     masks
 }
@@ -75,12 +64,10 @@ fn parts_some(n: usize, cluster: u64, masks: &[u64; Matrix::MAX_STRAINS]) -> boo
     requires { n ≤ max_strains }
     ensures { result ≡ some n (λ j. parts_column cluster j (get_or masks.now j 0)) }
 {
-    let mut j = 0;
-    while j < n {
+    for j in 0..n {
         if parts_column(cluster, j, masks[j]) {
             return true;
         }
-        j += 1;
     }
     false
 }
@@ -92,12 +79,10 @@ pub fn first_unseen(n: usize, distances: &[u16], parents: &[u8]) -> usize
 {
     let clusters = clusters::clusters(n, parents);
     let masks = columns(n, distances);
-    let mut v = 0;
-    while v < parents.len() {
+    for v in 0..parents.len() {
         if !parts_some(n, clusters[v], &masks) {
             return v;
         }
-        v += 1;
     }
-    v
+    parents.len()
 }

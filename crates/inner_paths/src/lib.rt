@@ -11,13 +11,6 @@ ghost use Rattle.inner_paths.specs.Between.{Lengthened, Between, apart_in, spots
 // The pairs of 62 vertices: no more are inner.
 pub const SPOTS: usize = 1_891;
 
-// Zeros, room for the paths between inner vertices.
-pub fn no_paths() -> [i64; SPOTS]
-    ensures { result ≡ table spots (λ _. pos 0) }
-{
-    [0; SPOTS]
-}
-
 // What the table says of two vertices, counted from the root down.
 fn apart(between: &[i64; SPOTS], p: usize, q: usize) -> i64
     requires { (length between.now ≡ spots) × (p < 62) × (q < 62) }
@@ -39,11 +32,9 @@ fn reach(n: usize, edges: usize, parents: &[u8], x: &[i64], a: usize, between: &
     let step = x[a];
     let own = edges - a;
     let above = edges - parents[a] as usize;
-    let mut b = 0;
-    while b < own {
+    for b in 0..own {
         let far = step + apart(between, above, b);
         between[matrix::place(b, own)] = far;
-        b += 1;
     }
 }
 
@@ -53,9 +44,7 @@ pub fn fill_paths(n: usize, edges: usize, parents: &[u8], x: &[i64], between: &m
     requires between_len { length between.old ≡ spots }
     ensures { Between edges (parent_of parents.now) (entry_of x.now) (edges - n + 1) between.new }
 {
-    let mut a = edges;
-    while a > n {
-        a -= 1;
+    for a in (n..edges).rev() {
         reach(n, edges, parents, x, a, between);
     }
 }
@@ -65,7 +54,7 @@ pub fn inner_paths(n: usize, edges: usize, parents: &[u8], x: &[i64]) -> [i64; S
     requires { Lengthened n edges parents.now x.now }
     ensures { Between edges (parent_of parents.now) (entry_of x.now) (edges - n + 1) result }
 {
-    let mut between = no_paths();
+    let mut between: [i64; SPOTS] = arrays::filled(0);
     fill_paths(n, edges, parents, x, &mut between);
     between
 }

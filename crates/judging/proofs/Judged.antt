@@ -4,8 +4,8 @@ use mathlib.Core.List.{List}
 use Prim.Native.Nat.{ℕ}
 use lib.IntN.{ℤ}
 use Rattle.verdict.specs.Answer.{answer_of}
-use Rattle.verdict.specs.declared.Verdict.{Verdict}
-use Rattle.verdict.specs.declared.Verdict.TheVariants.{Accepted}
+use Rattle.verdict.specs.Answer.{Verdict}
+use Rattle.std.specs.Prelude.{Ok}
 use Rattle.verdict.specs.declared.Rule.{Rule}
 use Rattle.verdict.proofs.Answers.{same_answer}
 use Rattle.fit_theory.specs.Tests.{judge_tests}
@@ -17,7 +17,7 @@ module _ (rule : Rule) (N : ℕ) (ds ps : List ℕ) (D : ℕ) (ns : List ℤ) wh
   judged r e = record {
     answer = e;
     accepted = λ q. →stands rule N ds ps D ns (sym e ∙ ap answer_of q);
-    stands = λ s. same_answer r Accepted (e ∙ stands→ rule N ds ps D ns s);
+    stands = λ s. same_answer r (Ok tt) (e ∙ stands→ rule N ds ps D ns s);
   }
 
   pub one_verdict : (r r' : Verdict) → JudgeAnswer rule N ds ps D ns r → JudgeAnswer rule N ds ps D ns r' → r ≡ r'

@@ -32,7 +32,7 @@ fn check_sums(
         let sums = edge_sums::edge_sums(n, edges, d, distances, parents, &masks, numerators);
         return balancing::balance(rule, edges, &sums, numerators);
     }
-    let mut sums = tree::edge_zeros();
+    let mut sums: [i64; tree::Tree::MAX_EDGES] = arrays::filled(0);
     edge_numbers::remainders(n, edges, d, distances, parents, numerators, &mut sums);
     balancing::balance(rule, edges, &sums, numerators)
 }
@@ -49,14 +49,8 @@ pub fn judge_proposal(
     requires { Posted n distances.now parents.now }
     ensures { answer_of result ≡ proposal_tests rule n distances.now parents.now d numerators.now }
 {
-    let of_lengths = lengths::check_lengths(parents.len(), d, numerators);
-    if let Verdict::Refused(refusal) = of_lengths {
-        return Verdict::Refused(refusal);
-    }
-    let of_signs = lengths::check_signs(rule, numerators);
-    if let Verdict::Refused(refusal) = of_signs {
-        return Verdict::Refused(refusal);
-    }
+    lengths::check_lengths(parents.len(), d, numerators)?;
+    lengths::check_signs(rule, numerators)?;
     check_sums(rule, n as usize, distances, parents, d, numerators)
 }
 
@@ -71,9 +65,6 @@ pub fn judge(
 ) -> Verdict
     ensures { JudgeAnswer rule n distances.now parents.now d numerators.now result }
 {
-    let posted = posting::check_posting(n, distances, parents);
-    if let Verdict::Refused(refusal) = posted {
-        return Verdict::Refused(refusal);
-    }
+    posting::check_posting(n, distances, parents)?;
     judge_proposal(rule, n, distances, parents, d, numerators)
 }

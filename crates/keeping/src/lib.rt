@@ -27,23 +27,14 @@ fn one_of(far: u16) -> u16
     1
 }
 
-// Ones, by a function of its own: proofs then carry a name in place of every entry.
-fn all_ones() -> [u16; Matrix::MAX_PAIRS]
-    ensures { result ≡ table max_pairs (λ _. 1) }
-{
-    [1; Matrix::MAX_PAIRS]
-}
-
 // That for each pair of a matrix.
 fn ones_of(distances: &[u16]) -> [u16; Matrix::MAX_PAIRS]
     requires { length distances.now ≤ max_pairs }
     ensures { (length result ≡ max_pairs) × (take (length distances.now) result ≡ ones distances.now) }
 {
-    let mut held = all_ones();
-    let mut k = 0;
-    while k < distances.len() {
-        held[k] = one_of(distances[k]);
-        k += 1;
+    let mut held: [u16; Matrix::MAX_PAIRS] = arrays::filled(1);
+    for (k, distance) in distances.iter().enumerate() {
+        held[k] = one_of(*distance);
     }
     held
 }

@@ -21,40 +21,21 @@ pub struct Lengths {
     pub numerators: [i64; Tree::MAX_EDGES],
 }
 
-// What a proposal gets: the answer, and the lengths where it is accepted.
-#[derive(Clone, Copy)]
-pub struct Proposed {
-    pub verdict: Verdict,
-    pub lengths: Lengths,
-}
-
 impl Lengths {
     pub const MAX_DENOMINATOR: u32 = 1_000_000;
     // How far a numerator may be from 0.
     pub const MAX_NUMERATOR: u64 = 100_000_000_000;
 
-    // The answer of the check, and the lengths where they are accepted; a refusal carries no edges and zeros.
-    pub fn new(edges: usize, d: u32, numerators: &[i64]) -> Proposed
+    // The lengths, where the check accepts them.
+    pub fn new(edges: usize, d: u32, numerators: &[i64]) -> Result<Lengths, Refusal>
         ensures { LengthsAnswer edges d numerators.now result }
     {
-        match check_lengths(edges, d, numerators) {
-            Verdict::Accepted => Proposed {
-                verdict: Verdict::Accepted,
-                lengths: Lengths {
-                    denominator: d,
-                    edges,
-                    numerators: copied(numerators),
-                },
-            },
-            Verdict::Refused(refusal) => Proposed {
-                verdict: Verdict::Refused(refusal),
-                lengths: Lengths {
-                    denominator: 0,
-                    edges: 0,
-                    numerators: tree::edge_zeros(),
-                },
-            },
-        }
+        check_lengths(edges, d, numerators)?;
+        Ok(Lengths {
+            denominator: d,
+            edges,
+            numerators: copied(numerators),
+        })
     }
 }
 
@@ -95,14 +76,12 @@ fn at_fault(ask: Ask, numerator: i64) -> bool
 fn first_at_fault(ask: Ask, numerators: &[i64]) -> usize
     ensures { result ≡ first (length numerators.now) (λ v. fault_by ask (get_or numerators.now v (pos 0))) }
 {
-    let mut v = 0;
-    while v < numerators.len() {
-        if at_fault(ask, numerators[v]) {
+    for (v, numerator) in numerators.iter().enumerate() {
+        if at_fault(ask, *numerator) {
             return v;
         }
-        v += 1;
     }
-    v
+    numerators.len()
 }
 
 // 11, 12, 13, the first that applies, for any count of edges, any d and any slice.
@@ -110,37 +89,37 @@ pub fn check_lengths(edges: usize, d: u32, numerators: &[i64]) -> Verdict
     ensures { answer_of result ≡ lengths_tests edges d numerators.now }
 {
     if numerators.len() != edges {
-        return Verdict::Refused(Refusal {
+        return Err(Refusal {
             reason: Reason::Edges,
             place: Place::Nowhere,
         });
     }
     if edges > Tree::MAX_EDGES {
-        return Verdict::Refused(Refusal {
+        return Err(Refusal {
             reason: Reason::Edges,
             place: Place::Nowhere,
         });
     }
     if d < 1 {
-        return Verdict::Refused(Refusal {
+        return Err(Refusal {
             reason: Reason::Denominator,
             place: Place::Nowhere,
         });
     }
     if d > Lengths::MAX_DENOMINATOR {
-        return Verdict::Refused(Refusal {
+        return Err(Refusal {
             reason: Reason::Denominator,
             place: Place::Nowhere,
         });
     }
     let v = first_at_fault(Ask::InRange, numerators);
     if v < numerators.len() {
-        return Verdict::Refused(Refusal {
+        return Err(Refusal {
             reason: Reason::Numerator,
             place: Place::Edge(v),
         });
     }
-    Verdict::Accepted
+    Ok(())
 }
 
 // 22: where no length may be negative, one is.
@@ -148,16 +127,16 @@ pub fn check_signs(rule: Rule, numerators: &[i64]) -> Verdict
     ensures { answer_of result ≡ sign_tests rule numerators.now }
 {
     match rule {
-        Rule::Plain => Verdict::Accepted,
+        Rule::Plain => Ok(()),
         Rule::Drawable => {
             let lowest = first_at_fault(Ask::NotNegative, numerators);
             if lowest < numerators.len() {
-                return Verdict::Refused(Refusal {
+                return Err(Refusal {
                     reason: Reason::Negative,
                     place: Place::Edge(lowest),
                 });
             }
-            Verdict::Accepted
+            Ok(())
         }
     }
 }
@@ -167,11 +146,5 @@ pub fn copied(numerators: &[i64]) -> [i64; Tree::MAX_EDGES]
     requires { length numerators.now ≤ max_edges }
     ensures { result ≡ table max_edges (λ v. get_or numerators.now v (pos 0)) }
 {
-    let mut kept = tree::edge_zeros();
-    let mut v = 0;
-    while v < numerators.len() {
-        kept[v] = numerators[v];
-        v += 1;
-    }
-    kept
+    arrays::padded(numerators, 0)
 }

@@ -10,7 +10,7 @@ use lib.Seq.{take-suc}
 use Rattle.exact.specs.Table.{entry_of}
 use Rattle.verdict.specs.declared.Place.{Place}
 use Rattle.verdict.specs.declared.Place.TheVariants.{EdgeSum}
-use Rattle.mean.specs.declared.Mean.{Mean}
+use Rattle.mean.specs.Mean.{Mean}
 use Rattle.writing.specs.Text.{decimal, signed, Wrote}
 use Rattle.writing.proofs.Decimals.{decimal-length, signed-length}
 use Rattle.writing.proofs.Writing.{wrote_none, wrote_then, wrote-length}

@@ -9,8 +9,8 @@ use Rattle.verdict.specs.declared.Place.{Place}
 use Rattle.verdict.specs.declared.Place.TheVariants.{Nowhere, Byte, Vertex, Edge, EdgeSum}
 use Rattle.verdict.specs.declared.Rule.{Rule}
 use Rattle.verdict.specs.declared.Rule.TheVariants.{Plain, Drawable}
-use Rattle.mean.specs.declared.Mean.{Mean}
-use Rattle.mean.specs.declared.Mean.TheVariants.{None, Over}
+use Rattle.mean.specs.Mean.{Mean}
+use Rattle.std.specs.Prelude.{Some, None}
 use Rattle.tree_theory.specs.Limits.{max_edges}
 use Rattle.writing.specs.Text.{Wrote}
 use Rattle.writing.proofs.Writing.{wrote_then}
@@ -57,7 +57,7 @@ refused-length k p = omega (arith, refused-widest k p)
 
 mean-length : (F : ℤ) (mean : Mean) → length (mean_line F mean) ≤ widest
 mean-length F None = simp length-append (omega (arith, fields-length []))
-mean-length F (Over d) = simp length-append (omega (arith, fields-length (F ∷ d ∷ [])))
+mean-length F (Some d) = simp length-append (omega (arith, fields-length (F ∷ d ∷ [])))
 
 pub word-length : (rule : Rule) → length (fit_word rule) ≤ 4
 word-length Plain = omega arith

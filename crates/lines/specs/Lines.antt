@@ -5,8 +5,8 @@ use Rattle.verdict.specs.declared.Place.{Place}
 use Rattle.verdict.specs.declared.Place.TheVariants.{Nowhere, Byte, Vertex, Edge, EdgeSum}
 use Rattle.verdict.specs.declared.Rule.{Rule}
 use Rattle.verdict.specs.declared.Rule.TheVariants.{Plain, Drawable}
-use Rattle.mean.specs.declared.Mean.{Mean}
-use Rattle.mean.specs.declared.Mean.TheVariants.{None, Over}
+use Rattle.mean.specs.Mean.{Mean}
+use Rattle.std.specs.Prelude.{Some, None}
 use Rattle.writing.specs.Text.{signed}
 
 -- the end of a line
@@ -84,7 +84,7 @@ edge_lines = edge_lines_by signed
 -- the line of the mean square: mean, F and what it is over; mean none where it is over nothing
 abbrev pub mean_line_by : (ℤ → List ℕ) → ℤ → Mean → List ℕ
 mean_line_by show F None = line_by show (mean_word ++ (32 ∷ none_word)) []
-mean_line_by show F (Over d) = line_by show mean_word (F ∷ d ∷ [])
+mean_line_by show F (Some d) = line_by show mean_word (F ∷ d ∷ [])
 
 abbrev pub mean_line : ℤ → Mean → List ℕ
 mean_line = mean_line_by signed

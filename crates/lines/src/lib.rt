@@ -15,11 +15,9 @@ fn fields(text: &mut [u8], at: usize, values: &[i64]) -> usize
     ensures { Wrote text.old text.new at (fields values.now) result }
 {
     let mut next = at;
-    let mut k = 0;
-    while k < values.len() {
+    for value in values {
         let number = writing::put(text, next, b' ');
-        next = writing::put_signed(text, number, values[k]);
-        k += 1;
+        next = writing::put_signed(text, number, *value);
     }
     next
 }
@@ -40,8 +38,8 @@ pub fn mean_line(text: &mut [u8], at: usize, f: i64, mean: Mean) -> usize
     ensures { Wrote text.old text.new at (mean_line f mean) result }
 {
     match mean {
-        Mean::None => line(text, at, b"mean none", &[]),
-        Mean::Over(divisor) => {
+        None => line(text, at, b"mean none", &[]),
+        Some(divisor) => {
             let values = [f, divisor];
             line(text, at, b"mean", &values)
         }

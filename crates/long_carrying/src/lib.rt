@@ -41,13 +41,6 @@ fn parted(z: i64) -> Part
     }
 }
 
-// Zeros, room for such digits.
-pub fn no_digits() -> [u32; WIDE]
-    ensures { result ≡ table wide_size (λ _. 0) }
-{
-    [0; WIDE]
-}
-
 // The digits of a number that is not negative: three, then one for each level, then zeros.
 pub fn carried(levels: usize, f: &[i64]) -> [u32; WIDE]
     requires levels_le_max_levels { (levels ≤ max_levels) × (levels ≤ length f.now) }
@@ -55,13 +48,11 @@ pub fn carried(levels: usize, f: &[i64]) -> [u32; WIDE]
     requires pos { pos 0 ≤ᶻ value levels (entry_of f.now) }
     ensures { Carried levels (entry_of f.now) result }
 {
-    let mut digits = no_digits();
+    let mut digits: [u32; WIDE] = arrays::filled(0);
     let mut carry: i64 = 0;
-    let mut left = levels;
-    while left > 0 {
-        left -= 1;
-        let part = parted(f[left] + carry);
-        digits[left + 3] = part.kept;
+    for level in (0..levels).rev() {
+        let part = parted(f[level] + carry);
+        digits[level + 3] = part.kept;
         carry = part.over;
     }
     let top = carry as u64;

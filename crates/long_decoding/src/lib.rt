@@ -12,31 +12,16 @@ use tree::Tree;
 // As many digits as the most edges have.
 pub const MAX_DIGITS: usize = MAX_LEVELS * Tree::MAX_EDGES;
 
-fn no_levels() -> [u32; MAX_LEVELS]
-    ensures { result ≡ table max_levels (λ _. 0) }
-{
-    [0; MAX_LEVELS]
-}
-
 // The digits of D, which start at `at`, then zeros.
 pub fn denominator_digits(s: &[u8], at: usize, levels: usize) -> [u32; MAX_LEVELS]
     requires { (levels ≤ max_levels) × (at + 4 * levels ≤ length s.now) }
     ensures { result ≡ padded 0 max_levels levels (natural_at s.now at) }
 {
-    let mut held = no_levels();
-    let mut k = 0;
-    while k < levels {
+    let mut held: [u32; MAX_LEVELS] = arrays::filled(0);
+    for k in 0..levels {
         held[k] = endian::u32_at(s, at + 4 * k);
-        k += 1;
     }
     held
-}
-
-// A table for the digits of numerators: zeros, by a function of its own, so that proofs carry a name in place of every entry.
-pub fn no_digits() -> [i64; MAX_DIGITS]
-    ensures { result ≡ table max_digits (λ _. pos 0) }
-{
-    [0; MAX_DIGITS]
 }
 
 // So many digits of numerators, which start at `at`, into the front of a table. What stands behind them there stays.
@@ -44,10 +29,8 @@ pub fn digits_into(s: &[u8], at: usize, count: usize, into: &mut [i64])
     requires { (count ≤ length into.old) × (at + 4 * count ≤ length s.now) }
     ensures { into.new ≡ table count (signed_at s.now at) ++ drop count into.old }
 {
-    let mut k = 0;
-    while k < count {
+    for k in 0..count {
         let x = endian::i32_at(s, at + 4 * k);
         into[k] = x;
-        k += 1;
     }
 }

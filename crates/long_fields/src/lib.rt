@@ -43,11 +43,9 @@ fn magnitudes(edges: usize, levels: usize, digits: &[i64], v: usize) -> [u32; WI
     requires levels_le_max_levels { (levels ≤ max_levels) × ((i : ℕ) → nat_abs (entry_of digits.now i) < base) }
     ensures { Magnitudes levels edges digits.now v result }
 {
-    let mut held = long_carrying::no_digits();
-    let mut k = 0;
-    while k < levels {
+    let mut held: [u32; WIDE] = arrays::filled(0);
+    for k in 0..levels {
         held[k] = arithmetic::magnitude(digits[k * edges + v]) as u32;
-        k += 1;
     }
     held
 }

@@ -9,7 +9,7 @@ use mir.Syntax.{w64}
 use mir.Val.{SFits}
 use Rattle.exact.proofs.Sign.{fits_abs}
 use Rattle.verdict.specs.declared.Rule.{Rule}
-use Rattle.mean.specs.declared.Mean.{Mean}
+use Rattle.mean.specs.Mean.{Mean}
 use Rattle.tree_theory.specs.Limits.{max_edges}
 use Rattle.writing.specs.Text.{Wrote}
 use Rattle.writing.proofs.Writing.{wrote_then, wrote-length}

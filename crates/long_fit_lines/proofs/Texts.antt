@@ -1,8 +1,8 @@
 -- The print of a report in digits is the print of what it is of (`long-report-is`), and its numbers can be printed (`printable`).
 use mathlib.Core.Path.{◌≡◌, refl, sym, ◌∙◌, ap, ap₂, subst}
-use mathlib.Core.Bool.{Bool, true, false, true≢false}
+use mathlib.Core.Bool.{Bool, true, false}
 use mathlib.Core.List.{List, [], ◌∷◌, ◌++◌}
-use Prim.Native.Nat.{ℕ, zero, suc, ◌+◌, ◌<◌}
+use Prim.Native.Nat.{ℕ, zero, suc, ◌+◌, ◌<◌, ◌≤◌}
 use native.Mathlib.Omega.{arith}
 use borrow.Author.Tests.{le-ltb}
 use denote.Floats.{is_true}
@@ -14,8 +14,9 @@ use Rattle.exact.specs.Table.{entry_of}
 use Rattle.exact.proofs.Fill.{get_or_table}
 use Rattle.exact.proofs.Sign.{is_pos}
 use Rattle.verdict.specs.declared.Rule.{Rule}
-use Rattle.mean.specs.declared.Mean.{Mean}
-use Rattle.mean.specs.declared.Mean.TheVariants.{None, Over}
+use Rattle.mean.specs.Mean.{Mean}
+use Rattle.std.specs.Prelude.{Option, Some, None, IfSome}
+use Rattle.std.proofs.lemmas.Option.{none-some}
 use Rattle.mean.specs.Mean.{mean_of}
 use Rattle.fit_theory.specs.Quantities.{tree_length, f_of, r_of, h_of, rounded_of}
 use Rattle.lines.specs.Lines.{line_by, edge_word, edge_lines_by, fit_text_by, fit_word, length_word, square_word, mean_line_by}
@@ -36,13 +37,16 @@ wide_is : (z : ℤ) (b : Bool) (n : ℕ) → b ≡ lt_z z (pos 0) → n ≡ nat_
 wide_is (pos m) b n e f = ap₂ wide_of (e ∙ le-ltb m 0 (omega arith)) f
 wide_is (negsuc m) b n e f = ap₂ wide_of e f
 
-mean-is : (L : ℕ) (m : Mean) (some : Bool) (digits : List ℕ) → Means L m some digits → mean_by some (number_of L digits) ≡ m
-mean-is L None some digits e = ap (λ (b : Bool). mean_by b (number_of L digits)) e
-mean-is L (Over z) some digits (e, up, n) = ap₂ mean_by e n.same ∙ ap Over (up_is z up)
+mean-is : (L : ℕ) (m : Mean) (over : Option (List ℕ)) → Means L m over → mean_by (L + 3) over ≡ m
+mean-is L None over e = ap (mean_by (L + 3)) e
+mean-is L (Some z) None (up, n) = absurd n
+mean-is L (Some z) (Some digits) (up, n) = ap Some (ap pos n.same ∙ up_is z up)
 
-mean-over : (L : ℕ) (m : Mean) (some : Bool) (digits : List ℕ) → Means L m some digits → some ≡ true → (k : ℕ) → (length digits ≡ 55) × (get_or digits k 0 < 1000000)
-mean-over L None some digits e s k = absurd (true≢false (sym s ∙ e))
-mean-over L (Over z) some digits (e, up, n) s k = (n.size, n.small k)
+mean-over : (L : ℕ) (m : Mean) (over : Option (List ℕ)) → L + 3 ≤ 55 → Means L m over → IfSome over (λ o. Digits (L + 3) o)
+mean-over L None None few e = tt
+mean-over L None (Some digits) few e = absurd (none-some digits (sym e))
+mean-over L (Some z) None few e = tt
+mean-over L (Some z) (Some digits) few (up, n) = record { most = few; there = omega (arith, n.size); small = n.small }
 
 -- ---- rows that agree at the edges have the same lines
 rows_cong : (show : ℤ → List ℕ) (K : ℕ) (row row' : ℕ → List ℤ) → ((v : ℕ) → v < K → row v ≡ row' v) → edge_lines_by show K row ≡ edge_lines_by show K row'
@@ -82,14 +86,13 @@ module _ (rule : Rule) (N : ℕ) (ds ps Ds : List ℕ) (ns : List ℤ) (x : Long
     length_digits = record { most = omega (arith, p.stands.lengths.most); there = omega (arith, p.stands.lengths.most, p.total.magnitude.size); small = p.total.magnitude.small };
     sign = p.total.sign ∙ ap (λ (z : ℤ). lt_z z (pos 0)) (sym total-is);
     f-digits = record { most = omega (arith, p.stands.lengths.most); there = omega (arith, p.stands.lengths.most, p.f.size); small = p.f.small };
-    mean-digits = λ s. let w = mean-over L (mean_of N ds K D) x.mean.some x.mean.digits p.mean s in
-        record { most = omega (arith, p.stands.lengths.most); there = omega (arith, p.stands.lengths.most, (w 0).0); small = λ k. (w k).1 };
+    mean-digits = mean-over L (mean_of N ds K D) x.mean (omega (arith, p.stands.lengths.most)) p.mean;
   }
 
   pub long-report-is : long_report_text rule Ds ns x ≡ long_fit_of rule N ds ps Ds ns
   long-report-is =
-      ap₂ (λ (a b : ℕ). fit_text_by long_signed rule a b D (long_numerator L b ns) (entry_of x.rounded) (wide_of x.length.negative (number_of L x.length.digits)) (pos (number_of L x.f)) x.r x.h (mean_by x.mean.some (number_of L x.mean.digits))) p.strains p.edges
+      ap₂ (λ (a b : ℕ). fit_text_by long_signed rule a b D (long_numerator L b ns) (entry_of x.rounded) (wide_of x.length.negative (number_of L x.length.digits)) (pos (number_of L x.f)) x.r x.h (mean_by (L + 3) x.mean)) p.strains p.edges
       ∙ fit_cong long_signed rule N K D (long_numerator L K ns) (entry_of tops) (entry_of x.rounded) (rounded_of D tops) _ _ _ _ _ (λ v l. sym (get_or_table K (long_numerator L K ns) (pos 0) v l)) p.rounded.entries
-      ∙ ap₂ (λ (t F : ℤ). fit_text_by long_signed rule N K D (entry_of tops) (rounded_of D tops) t F x.r x.h (mean_by x.mean.some (number_of L x.mean.digits))) total-is f-is
-      ∙ ap₂ (λ (R H : ℤ). fit_text_by long_signed rule N K D (entry_of tops) (rounded_of D tops) (tree_length tops) (f_of N ds ps D tops) R H (mean_by x.mean.some (number_of L x.mean.digits))) p.r p.h
-      ∙ ap (λ (m : Mean). fit_text_by long_signed rule N K D (entry_of tops) (rounded_of D tops) (tree_length tops) (f_of N ds ps D tops) (r_of N ds ps D tops) (h_of N ds ps) m) (mean-is L (mean_of N ds K D) x.mean.some x.mean.digits p.mean)
+      ∙ ap₂ (λ (t F : ℤ). fit_text_by long_signed rule N K D (entry_of tops) (rounded_of D tops) t F x.r x.h (mean_by (L + 3) x.mean)) total-is f-is
+      ∙ ap₂ (λ (R H : ℤ). fit_text_by long_signed rule N K D (entry_of tops) (rounded_of D tops) (tree_length tops) (f_of N ds ps D tops) R H (mean_by (L + 3) x.mean)) p.r p.h
+      ∙ ap (λ (m : Mean). fit_text_by long_signed rule N K D (entry_of tops) (rounded_of D tops) (tree_length tops) (f_of N ds ps D tops) (r_of N ds ps D tops) (h_of N ds ps) m) (mean-is L (mean_of N ds K D) x.mean p.mean)

@@ -1,5 +1,5 @@
 -- The print of a fit in digits: of what a matrix, a tree and long lengths are, and of a report.
-use Rattle.std.specs.Prelude.{◌≡◌, Bool, true, List, ℕ, ◌+◌, ℤ, pos, length, get_or}
+use Rattle.std.specs.Prelude.{◌≡◌, Bool, List, ℕ, ◌+◌, ℤ, pos, Option, IfSome, length, get_or}
 use Rattle.std.specs.Int.Signed.{lt_z}
 use Rattle.exact.specs.Table.{entry_of}
 use Rattle.verdict.specs.declared.Rule.{Rule}
@@ -25,23 +25,23 @@ long_fit_of rule N ds ps Ds ns = wide_fit_of rule N ds ps (long_denominator (len
 abbrev pub number_of : ℕ → List ℕ → ℕ
 number_of L digits = natural (L + 3) (λ k. get_or digits k 0)
 
--- by its numbers, beside the digits that they are of: the sign and the digits of the tree length, those of F, whether there is a mean square and the digits of what it is over
-abbrev pub numbers_text : Rule → ℕ → ℕ → List ℕ → List ℤ → List ℤ → Bool → List ℕ → List ℕ → ℤ → ℤ → Bool → List ℕ → List ℕ
-numbers_text rule N K Ds ns ms negative total f R H some over =
+-- by its numbers, beside the digits that they are of: the sign and the digits of the tree length, those of F, and the digits of what the mean square is over
+abbrev pub numbers_text : Rule → ℕ → ℕ → List ℕ → List ℤ → List ℤ → Bool → List ℕ → List ℕ → ℤ → ℤ → Option (List ℕ) → List ℕ
+numbers_text rule N K Ds ns ms negative total f R H over =
     fit_text_by long_signed rule N K (long_denominator (length Ds) Ds) (long_numerator (length Ds) K ns) (entry_of ms)
-    (wide_of negative (number_of (length Ds) total)) (pos (number_of (length Ds) f)) R H (mean_by some (number_of (length Ds) over))
+    (wide_of negative (number_of (length Ds) total)) (pos (number_of (length Ds) f)) R H (mean_by (length Ds + 3) over)
 
 -- of a report
 abbrev pub long_report_text : Rule → List ℕ → List ℤ → LongReport → List ℕ
-long_report_text rule Ds ns x = numbers_text rule x.strains x.edges Ds ns x.rounded x.length.negative x.length.digits x.f x.r x.h x.mean.some x.mean.digits
+long_report_text rule Ds ns x = numbers_text rule x.strains x.edges Ds ns x.rounded x.length.negative x.length.digits x.f x.r x.h x.mean
 
 -- numbers are in digits, and the sign is that of the number
-pub record Printed (L : ℕ) (negative : Bool) (total f : List ℕ) (some : Bool) (over : List ℕ) : Type 0 where
+pub record Printed (L : ℕ) (negative : Bool) (total f : List ℕ) (over : Option (List ℕ)) : Type 0 where
   pub length_digits : Digits (L + 3) total
   pub sign : negative ≡ lt_z (wide_of negative (number_of L total)) (pos 0)
   pub f-digits : Digits (L + 3) f
-  pub mean-digits : some ≡ true → Digits (L + 3) over
+  pub mean-digits : IfSome over (λ o. Digits (L + 3) o)
 
 -- those of a report
 abbrev pub Printable : ℕ → LongReport → Type 0
-Printable L x = Printed L x.length.negative x.length.digits x.f x.mean.some x.mean.digits
+Printable L x = Printed L x.length.negative x.length.digits x.f x.mean

@@ -11,6 +11,7 @@ ghost use Rattle.long_fields.specs.Fields.{widest_edge};
 ghost use Rattle.long_lines.specs.LongLines.{long_page_size};
 ghost use Rattle.long_fit_lines.specs.LongTexts.{Printed, Printable, numbers_text, long_report_text};
 
+use long_carrying::WIDE;
 use long_reporting::LongReport;
 use tree::Tree;
 use verdict::Rule;
@@ -30,10 +31,8 @@ fn edge_lines(
     ensures upper_bound { result ≤ at + widest_edge * edges }
 {
     let mut next = at;
-    let mut v = 0;
-    while v < edges {
+    for v in 0..edges {
         next = long_fields::edge_line(text, next, edges, d, digits, v, rounded[v]);
-        v += 1;
     }
     next
 }
@@ -52,20 +51,19 @@ fn print_numbers(
     f: &[u32],
     r: i64,
     h: i64,
-    some: bool,
-    over: &[u32],
+    over: Option<[u32; WIDE]>,
 ) -> usize
     requires long_proper { LongProper edges d.now digits.now }
-    requires printed { Printed (length d.now) negative total.now f.now some over.now }
+    requires printed { Printed (length d.now) negative total.now f.now over }
     requires room { long_page_size ≤ length text.old }
-    ensures { Wrote text.old text.new 0 (numbers_text rule n edges d.now digits.now rounded.now negative total.now f.now r h some over.now) result }
+    ensures { Wrote text.old text.new 0 (numbers_text rule n edges d.now digits.now rounded.now negative total.now f.now r h over) result }
 {
     let levels = d.len() + 3;
     let next = long_lines::fit_line(text, rule, n, edges, d);
     let next = edge_lines(text, next, edges, d, digits, rounded);
     let next = long_lines::length_line(text, next, negative, levels, total);
     let next = long_lines::square_line(text, next, levels, f, r, h);
-    long_lines::mean_line(text, next, levels, f, some, over)
+    long_lines::mean_line(text, next, levels, f, over)
 }
 
 // The whole print of a fit in digits, at the front of the buffer: `d` has the digits of D, `digits` those of the numerators.
@@ -85,8 +83,6 @@ pub fn long_fit_text(
     let length = report.length;
     let total = length.digits;
     let f = report.f;
-    let mean = report.mean;
-    let over = mean.digits;
     print_numbers(
         text,
         rule,
@@ -100,7 +96,6 @@ pub fn long_fit_text(
         &f,
         report.r,
         report.h,
-        mean.some,
-        &over,
+        report.mean,
     )
 }

@@ -4,8 +4,8 @@ use mathlib.Core.List.{List}
 use Prim.Native.Nat.{ℕ}
 use lib.IntN.{ℤ}
 use Rattle.verdict.specs.Answer.{answer_of}
-use Rattle.verdict.specs.declared.Verdict.{Verdict}
-use Rattle.verdict.specs.declared.Verdict.TheVariants.{Accepted}
+use Rattle.verdict.specs.Answer.{Verdict}
+use Rattle.std.specs.Prelude.{Ok}
 use Rattle.verdict.specs.declared.Rule.{Rule}
 use Rattle.verdict.proofs.Answers.{same_answer}
 use Rattle.long_theory.specs.Tests.{long_tests}
@@ -17,7 +17,7 @@ module _ (rule : Rule) (N : ℕ) (ds ps Ds : List ℕ) (ns : List ℤ) where
   long-judged r e = record {
     answer = e;
     accepted = λ q. →long_stands rule N ds ps Ds ns (sym e ∙ ap answer_of q);
-    stands = λ s. same_answer r Accepted (e ∙ long_stands→ rule N ds ps Ds ns s);
+    stands = λ s. same_answer r (Ok tt) (e ∙ long_stands→ rule N ds ps Ds ns s);
   }
 
   pub one-long_verdict : (r r' : Verdict) → LongJudged rule N ds ps Ds ns r → LongJudged rule N ds ps Ds ns r' → r ≡ r'

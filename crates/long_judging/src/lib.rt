@@ -26,10 +26,7 @@ fn check_long_fit(
 {
     let edges = parents.len();
     let tops = long_sums::long_tops(edges, d.len(), digits);
-    let of_signs = lengths::check_signs(rule, &tops[..edges]);
-    if let Verdict::Refused(refusal) = of_signs {
-        return Verdict::Refused(refusal);
-    }
+    lengths::check_signs(rule, &tops[..edges])?;
     let masks = clusters::clusters(n, parents);
     let sums = long_sums::long_sums(n, edges, d.len(), d, distances, parents, &masks, digits);
     balancing::balance(rule, edges, &sums, &tops[..edges])
@@ -48,10 +45,7 @@ pub fn judge_long_proposal(
     requires { Posted n distances.now parents.now }
     ensures { answer_of result ≡ long_proposal_tests rule n distances.now parents.now d.now digits.now }
 {
-    let of_lengths = long_lengths::check_long_lengths(parents.len(), d, digits);
-    if let Verdict::Refused(refusal) = of_lengths {
-        return Verdict::Refused(refusal);
-    }
+    long_lengths::check_long_lengths(parents.len(), d, digits)?;
     check_long_fit(rule, n as usize, distances, parents, d, digits)
 }
 
@@ -66,9 +60,6 @@ pub fn judge_long(
 ) -> Verdict
     ensures { LongJudged rule n distances.now parents.now d.now digits.now result }
 {
-    let posted = posting::check_posting(n, distances, parents);
-    if let Verdict::Refused(refusal) = posted {
-        return Verdict::Refused(refusal);
-    }
+    posting::check_posting(n, distances, parents)?;
     judge_long_proposal(rule, n, distances, parents, d, digits)
 }

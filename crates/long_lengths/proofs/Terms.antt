@@ -1,18 +1,17 @@
 -- One digit of 2000·n + b·D in an i64, and the loop over the digits.
-use mathlib.Core.Path.{◌≡◌, refl, sym, ◌∙◌, ap, ap₂}
+use mathlib.Core.Path.{◌≡◌, sym, ◌∙◌, ap, ap₂}
 use mathlib.Core.List.{List, [], ◌∷◌}
-use Prim.Native.Nat.{ℕ, zero, suc, ◌+◌, ◌*◌, ◌^◌, ◌≤◌, ◌<◌}
-use native.Mathlib.Nat.{mul-le-mul, mul-le-mul_left, mul-le-mul_right}
+use Prim.Native.Nat.{ℕ, zero, suc, ◌+◌, ◌*◌, ◌≤◌, ◌<◌}
+use native.Mathlib.Nat.{mul-le-mul, mul-le-mul_right}
 use native.Mathlib.Numerals.{add-one}
 use native.Mathlib.Omega.{arith}
 use lib.IntN.{ℤ, pos, nat_abs, ◌+ℤ◌, ◌*ℤ◌}
 use lib.ListN.{length, get_or}
 use mir.Syntax.{w64}
 use mir.Val.{SFits, to_z, of_z}
-use Rattle.exact.specs.Table.{entry_of}
 use Rattle.exact.proofs.Quote.{by-ring, quote}
 use Rattle.exact.proofs.Sign.{nat_abs_add, nat_abs_mul, fits_abs, back, back-pos}
-use Rattle.long_digits.specs.Digits.{base, value, natural}
+use Rattle.long_digits.specs.Digits.{base, value}
 use Rattle.long_digits.specs.Clamp.{clamp, most}
 use Rattle.long_digits.proofs.Values.{value_pos, value-suc, value_none}
 use Rattle.long_digits.proofs.Clamps.{clamp-near, clamp_in, clamp-next}

@@ -3,13 +3,14 @@
 #![tactic(auto)]
 
 ghost use Rattle.std.specs.Prelude.{◌≡◌, not, ℕ, ◌*◌, ◌≤◌, ◌<◌, eqb, ltb, pos, nat_abs, length, get_or};
+ghost use Rattle.std.specs.Int.Signed.{lt_z};
 ghost use Rattle.long_digits.specs.Digits.{base};
 ghost use Rattle.long_digits.specs.Clamp.{clamp, most};
 ghost use Rattle.verdict.specs.Answer.{answer_of};
 ghost use Rattle.verdict.specs.Table.{some, first};
 ghost use Rattle.long_theory.specs.Long.{max_levels, max_length, digit_of, long_denominator, long_numerator};
 ghost use Rattle.long_theory.specs.Tests.{long_denominator_out, digits_out, long_numerator_out, long_lengths_tests};
-ghost use Rattle.long_lengths.specs.Edge.{LongEdge, LongRow, found_by, measure};
+ghost use Rattle.long_lengths.specs.Edge.{LongEdge, LongRow, FoundBy, measure};
 
 use tree::Tree;
 use verdict::{Place, Reason, Refusal, Verdict};
@@ -45,11 +46,9 @@ pub fn compare(edges: usize, levels: usize, d: &[u32], digits: &[i64], v: usize,
     ensures { result ≡ clamp most (measure b (pos (long_denominator levels d.now)) (long_numerator levels edges digits.now v)) }
 {
     let mut whole: i64 = 0;
-    let mut k = 0;
-    while k < levels {
+    for k in 0..levels {
         let next = term(digits[k * edges + v], b, d[k]);
         whole = long_sums::next_digit(whole, next);
-        k += 1;
     }
     whole
 }
@@ -59,13 +58,11 @@ fn table_out(edges: usize, levels: usize, size: usize) -> bool
     ensures { result ≡ not (eqb size (levels * edges)) }
 {
     let mut at = 0;
-    let mut k = 0;
-    while k < levels {
+    for k in 0..levels {
         if size - at < edges {
             return true;
         }
         at += edges;
-        k += 1;
     }
     at != size
 }
@@ -74,12 +71,10 @@ fn table_out(edges: usize, levels: usize, size: usize) -> bool
 fn too_high(d: &[u32]) -> bool
     ensures { result ≡ some (length d.now) (λ k. ltb 999999 (get_or d.now k 0)) }
 {
-    let mut k = 0;
-    while k < d.len() {
-        if d[k] > HIGHEST {
+    for digit in d {
+        if *digit > HIGHEST {
             return true;
         }
-        k += 1;
     }
     false
 }
@@ -88,12 +83,10 @@ fn too_high(d: &[u32]) -> bool
 fn is_zero(d: &[u32]) -> bool
     ensures { result ≡ eqb (long_denominator (length d.now) d.now) 0 }
 {
-    let mut k = 0;
-    while k < d.len() {
-        if d[k] != 0 {
+    for digit in d {
+        if *digit != 0 {
             return false;
         }
-        k += 1;
     }
     true
 }
@@ -111,36 +104,22 @@ fn denominator_out(d: &[u32]) -> bool
     is_zero(d)
 }
 
-// What a pass over the digits of a numerator looks for: one that is too far from 0, a negative one, a positive one.
-#[derive(Clone, Copy)]
-enum Find {
-    Far,
-    Below,
-    Above,
-}
-
-// Whether a digit is what is looked for.
-fn is_found(find: Find, digit: i64) -> bool
-    ensures { result ≡ found_by find digit }
+// Whether one of an edge's digits is what is looked for.
+fn some_digit<F: Fn(i64) -> bool>(
+    is_found: F,
+    edges: usize,
+    levels: usize,
+    digits: &[i64],
+    v: usize,
+) -> bool
+    requires row { LongRow edges levels digits.now v }
+    requires is_found { F.IsAlwaysCallable is_found }
+    ensures { FoundBy (F.post is_found) levels (λ k. digit_of edges digits.now k v) result }
 {
-    match find {
-        Find::Far => arithmetic::magnitude(digit) > HIGHEST as u64,
-        Find::Below => digit < 0,
-        Find::Above => digit > 0,
-    }
-}
-
-// Whether one of an edge's digits is.
-fn some_digit(find: Find, edges: usize, levels: usize, digits: &[i64], v: usize) -> bool
-    requires { LongRow edges levels digits.now v }
-    ensures { result ≡ some levels (λ k. found_by find (digit_of edges digits.now k v)) }
-{
-    let mut k = 0;
-    while k < levels {
-        if is_found(find, digits[k * edges + v]) {
+    for k in 0..levels {
+        if is_found(digits[k * edges + v]) {
             return true;
         }
-        k += 1;
     }
     false
 }
@@ -150,13 +129,19 @@ fn digits_out(edges: usize, levels: usize, digits: &[i64], v: usize) -> bool
     requires { LongRow edges levels digits.now v }
     ensures { result ≡ digits_out levels edges digits.now v }
 {
-    if some_digit(Find::Far, edges, levels, digits, v) {
+    let far = |digit: i64|
+        ensures { result ≡ ltb 999999 (nat_abs digit) }
+    { arithmetic::magnitude(digit) > HIGHEST as u64 };
+    if some_digit(far, edges, levels, digits, v) {
         return true;
     }
-    if some_digit(Find::Below, edges, levels, digits, v) {
-        return some_digit(Find::Above, edges, levels, digits, v);
-    }
-    false
+    let below = |digit: i64|
+        ensures { result ≡ lt_z digit (pos 0) }
+    { digit < 0 };
+    let above = |digit: i64|
+        ensures { result ≡ lt_z (pos 0) digit }
+    { digit > 0 };
+    some_digit(below, edges, levels, digits, v) && some_digit(above, edges, levels, digits, v)
 }
 
 // Whether a length is too far from 0.
@@ -188,14 +173,12 @@ fn first_out(edges: usize, d: &[u32], digits: &[i64]) -> usize
     requires by_index { (k : ℕ) → get_or d.now k 0 < base }
     ensures { result ≡ first edges (long_numerator_out edges d.now digits.now) }
 {
-    let mut v = 0;
-    while v < edges {
+    for v in 0..edges {
         if numerator_out(edges, d, digits, v) {
             return v;
         }
-        v += 1;
     }
-    v
+    edges
 }
 
 // 11, 12, 13, the first that applies, for any count of edges and any slices: `d` has the digits of D, `digits` as many levels of a digit for each edge.
@@ -203,29 +186,29 @@ pub fn check_long_lengths(edges: usize, d: &[u32], digits: &[i64]) -> Verdict
     ensures { answer_of result ≡ long_lengths_tests edges d.now digits.now }
 {
     if table_out(edges, d.len(), digits.len()) {
-        return Verdict::Refused(Refusal {
+        return Err(Refusal {
             reason: Reason::Edges,
             place: Place::Nowhere,
         });
     }
     if edges > Tree::MAX_EDGES {
-        return Verdict::Refused(Refusal {
+        return Err(Refusal {
             reason: Reason::Edges,
             place: Place::Nowhere,
         });
     }
     if denominator_out(d) {
-        return Verdict::Refused(Refusal {
+        return Err(Refusal {
             reason: Reason::Denominator,
             place: Place::Nowhere,
         });
     }
     let v = first_out(edges, d, digits);
     if v < edges {
-        return Verdict::Refused(Refusal {
+        return Err(Refusal {
             reason: Reason::Numerator,
             place: Place::Edge(v),
         });
     }
-    Verdict::Accepted
+    Ok(())
 }

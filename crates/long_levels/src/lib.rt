@@ -12,26 +12,17 @@ ghost use Rattle.long_levels.specs.Levels.{LevelTable, Splits, Level, level_f};
 use long_lengths::MAX_LEVELS;
 use tree::Tree;
 
-// Zeros, one for each level that there may be.
-fn no_levels() -> [i64; MAX_LEVELS]
-    ensures { result ≡ table max_levels (λ _. pos 0) }
-{
-    [0; MAX_LEVELS]
-}
-
 // What each level's digits add to: the levels of the tree length.
 pub fn total_levels(edges: usize, levels: usize, digits: &[i64]) -> [i64; MAX_LEVELS]
     requires levels_le_max_levels { (levels ≤ max_levels) × (edges ≤ max_edges) × (levels * edges ≤ length digits.now) }
     requires by_index { (k : ℕ) → nat_abs (entry_of digits.now k) < base }
     ensures { LevelTable levels (λ k. sum edges (digit_of edges digits.now k)) result }
 {
-    let mut sums = no_levels();
+    let mut sums: [i64; MAX_LEVELS] = arrays::filled(0);
     let mut at = 0;
-    let mut k = 0;
-    while k < levels {
+    for k in 0..levels {
         sums[k] = fit_numbers::total(edges, &digits[at..]);
         at += edges;
-        k += 1;
     }
     sums
 }
@@ -49,10 +40,8 @@ fn level_f(
     ensures { (result ≡ level_f edges squares (entry_of splits.now) (pos d) (entry_of level.now)) × (nat_abs result ≤ 9000000000000000000) }
 {
     let mut f = d as i64 * squares;
-    let mut v = 0;
-    while v < edges {
+    for v in 0..edges {
         f -= level[v] * splits[v];
-        v += 1;
     }
     f
 }
@@ -71,13 +60,11 @@ pub fn f_levels(
     requires by_index { ((k : ℕ) → get_or d.now k 0 < base) × ((k : ℕ) → nat_abs (entry_of digits.now k) < base) }
     ensures { LevelTable levels (λ k. level_f edges squares (entry_of splits.now) (pos (get_or d.now k 0)) (digit_of edges digits.now k)) result }
 {
-    let mut sums = no_levels();
+    let mut sums: [i64; MAX_LEVELS] = arrays::filled(0);
     let mut at = 0;
-    let mut k = 0;
-    while k < levels {
+    for k in 0..levels {
         sums[k] = level_f(edges, d[k], squares, splits, &digits[at..]);
         at += edges;
-        k += 1;
     }
     sums
 }
@@ -88,11 +75,9 @@ pub fn times_levels(levels: usize, d: &[u32], count: u32) -> [i64; MAX_LEVELS]
     requires by_index { (k : ℕ) → get_or d.now k 0 < base }
     ensures { LevelTable levels (λ k. pos (get_or d.now k 0) *ℤ pos count) result }
 {
-    let mut products = no_levels();
-    let mut k = 0;
-    while k < levels {
+    let mut products: [i64; MAX_LEVELS] = arrays::filled(0);
+    for k in 0..levels {
         products[k] = d[k] as i64 * count as i64;
-        k += 1;
     }
     products
 }
@@ -103,11 +88,9 @@ pub fn negated(levels: usize, f: &[i64]) -> [i64; MAX_LEVELS]
     requires by_index { (k : ℕ) → k < levels → nat_abs (entry_of f.now k) ≤ 9000000000000000000 }
     ensures { LevelTable levels (λ k. pos 0 -ℤ entry_of f.now k) result }
 {
-    let mut others = no_levels();
-    let mut k = 0;
-    while k < levels {
+    let mut others: [i64; MAX_LEVELS] = arrays::filled(0);
+    for k in 0..levels {
         others[k] = 0 - f[k];
-        k += 1;
     }
     others
 }

@@ -9,7 +9,7 @@ use lib.ListN.{length, get_or}
 use lib.Signed.{lt_z}
 use Rattle.exact.proofs.Sign.{nat_abs_neg}
 use Rattle.verdict.specs.declared.Rule.{Rule}
-use Rattle.mean.specs.declared.Mean.{Mean}
+use Rattle.std.specs.Prelude.{Option, Some, None}
 use Rattle.writing.specs.Text.{Wrote}
 use Rattle.lines.specs.Lines.{end, fields_by, line_by, mean_word, none_word, mean_line_by, fit_word}
 use Rattle.long_digits.specs.Digits.{natural}
@@ -48,13 +48,10 @@ wide-length {L} {ds} b w e = omega (arith, ap length (wide_is b (natural L (λ k
 pub by_rule : {b c : List ℕ} {k : ℕ} (own rule : Rule) → own ≡ rule → Wrote b c 0 (fit_word rule) k → Wrote b c 0 (fit_word own) k
 by_rule {b} {c} {k} own rule e w = subst (λ (x : Rule). Wrote b c 0 (fit_word x) k) (sym e) w
 
-pub none_is : (F : ℤ) → mean_line_by long_signed F (mean_by false 0) ≡ mean_word ++ (32 ∷ (none_word ++ end))
-unfolding fields_by
-none_is F = refl
+module _ {b c : List ℕ} {at k : ℕ} (F : ℤ) (levels : ℕ) where
+  pub mean-none : (over : Option (List ℕ)) → over ≡ None → Wrote b c at (mean_word ++ (32 ∷ (none_word ++ end))) k → Wrote b c at (mean_line_by long_signed F (mean_by levels over)) k
+  unfolding fields_by
+  mean-none over e w = subst (λ (x : Option (List ℕ)). Wrote b c at (mean_line_by long_signed F (mean_by levels x)) k) (sym e) w
 
-module _ {b c : List ℕ} {at k : ℕ} (F : ℤ) (some : Bool) (n : ℕ) where
-  pub mean-none : some ≡ false → Wrote b c at (mean_word ++ (32 ∷ (none_word ++ end))) k → Wrote b c at (mean_line_by long_signed F (mean_by some n)) k
-  mean-none e w = subst (λ (x : Bool). Wrote b c at (mean_line_by long_signed F (mean_by x n)) k) (sym e) (subst (λ (t : List ℕ). Wrote b c at t k) (sym (none_is F)) w)
-
-  pub mean-over : some ≡ true → Wrote b c at (line_by long_signed mean_word (F ∷ pos n ∷ [])) k → Wrote b c at (mean_line_by long_signed F (mean_by some n)) k
-  mean-over e w = subst (λ (x : Bool). Wrote b c at (mean_line_by long_signed F (mean_by x n)) k) (sym e) w
+  pub mean-over : (over : Option (List ℕ)) (digits : List ℕ) → over ≡ Some digits → Wrote b c at (line_by long_signed mean_word (F ∷ pos (natural levels (λ j. get_or digits j 0)) ∷ [])) k → Wrote b c at (mean_line_by long_signed F (mean_by levels over)) k
+  mean-over over digits e w = subst (λ (x : Option (List ℕ)). Wrote b c at (mean_line_by long_signed F (mean_by levels x)) k) (sym e) w

@@ -1,8 +1,7 @@
 -- Numbers of a long print by what a report holds of them, and a page of its own size.
-use Rattle.std.specs.Prelude.{Bool, true, false, List, ℕ, ◌≤◌, ◌<◌, ℤ, pos, neg_ℤ, length, get_or}
-use Rattle.mean.specs.declared.Mean.{Mean}
-use Rattle.mean.specs.declared.Mean.TheVariants.{None, Over}
-use Rattle.long_digits.specs.Digits.{base}
+use Rattle.std.specs.Prelude.{Bool, true, false, List, ℕ, ◌≤◌, ◌<◌, ℤ, pos, neg_ℤ, Option, Some, None, length, get_or}
+use Rattle.mean.specs.Mean.{Mean}
+use Rattle.long_digits.specs.Digits.{base, natural}
 use Rattle.long_carrying.specs.Carried.{wide_size}
 
 -- room for every long print
@@ -24,7 +23,7 @@ abbrev pub wide_of : Bool → ℕ → ℤ
 wide_of true n = neg_ℤ (pos n)
 wide_of false n = pos n
 
--- what the mean square is over, or none
-abbrev pub mean_by : Bool → ℕ → Mean
-mean_by true n = Over (pos n)
-mean_by false n = None
+-- what the mean square is over, in so many digits, or none
+abbrev pub mean_by : ℕ → Option (List ℕ) → Mean
+mean_by levels (Some digits) = Some (pos (natural levels (λ k. get_or digits k 0)))
+mean_by levels None = None

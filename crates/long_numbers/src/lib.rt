@@ -32,10 +32,8 @@ fn sign(levels: usize, f: &[i64]) -> i64
     ensures { result ≡ clamp most (value levels (entry_of f.now)) }
 {
     let mut whole: i64 = 0;
-    let mut k = 0;
-    while k < levels {
+    for k in 0..levels {
         whole = long_sums::next_digit(whole, f[k]);
-        k += 1;
     }
     whole
 }
@@ -75,7 +73,7 @@ pub fn long_f(
     requires levels_le_max_levels { (levels ≤ max_levels) × (pos 0 ≤ᶻ sum_f (pairs n) edges (parts_in distances.now parents.now) (distance distances.now) (pos (long_denominator levels d.now)) (long_numerator levels edges digits.now)) }
     ensures { Natural levels (nat_abs (sum_f (pairs n) edges (parts_in distances.now parents.now) (distance distances.now) (pos (long_denominator levels d.now)) (long_numerator levels edges digits.now))) result }
 {
-    let zeros = tree::edge_zeros();
+    let zeros: [i64; Tree::MAX_EDGES] = arrays::filled(0);
     let squares = fit_numbers::sum_f(n, edges, 1, distances, parents, &zeros);
     let splits = edge_sums::edge_sums(n, edges, 1, distances, parents, masks, &zeros);
     let f = long_levels::f_levels(edges, levels, squares, &splits, d, digits);

@@ -11,7 +11,7 @@ use Rattle.exact.specs.Table.{entry_of}
 use Rattle.exact.proofs.Order.{≤_trans}
 use Rattle.verdict.specs.Answer.{Answer, pass}
 use Rattle.verdict.specs.declared.Rule.{Rule}
-use Rattle.mean.specs.declared.Mean.TheVariants.{None}
+use Rattle.std.specs.Prelude.{None}
 use Rattle.mean.specs.Mean.{times, mean_of}
 use Rattle.matrix.specs.Place.{pair_count, some_missing}
 use Rattle.fit_theory.specs.Quantities.{parts_in, rounded_of, tree_length, f_of, r_of, h_of}

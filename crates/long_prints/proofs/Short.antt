@@ -5,8 +5,8 @@ use Prim.Native.Nat.{ℕ, zero, suc, ◌^◌, ◌≤◌, ◌<◌}
 use native.Mathlib.Omega.{arith}
 use lib.IntN.{ℤ, pos, nat_abs}
 use Rattle.verdict.specs.declared.Rule.{Rule}
-use Rattle.mean.specs.declared.Mean.{Mean}
-use Rattle.mean.specs.declared.Mean.TheVariants.{None, Over}
+use Rattle.mean.specs.Mean.{Mean}
+use Rattle.std.specs.Prelude.{Some, None}
 use Rattle.tree_theory.specs.Limits.{max_edges}
 use Rattle.writing.specs.Text.{signed}
 use Rattle.lines.specs.Lines.{end, fields_by, line_by, edge_word, fit_word, length_word, square_word, mean_word, none_word, edge_lines_by, mean_line_by, fit_text_by, fit_text}
@@ -36,11 +36,11 @@ edges (suc K) n m few f g = ap₂ ◌++◌ (edges K n m (omega arith) (λ v l. f
 -- what the mean square is over is low
 abbrev pub LowMean : Mean → Type 0
 LowMean None = Unit
-LowMean (Over z) = nat_abs z < 2 ^ 64
+LowMean (Some z) = nat_abs z < 2 ^ 64
 
 mean-line : (F : ℤ) (mean : Mean) → Low F → LowMean mean → mean_line_by long_signed F mean ≡ mean_line_by signed F mean
 mean-line F None f h = as_line (mean_word ++ (32 ∷ none_word)) [] none
-mean-line F (Over z) f h = as_line mean_word (F ∷ z ∷ []) (and F (z ∷ []) f (and z [] h none))
+mean-line F (Some z) f h = as_line mean_word (F ∷ z ∷ []) (and F (z ∷ []) f (and z [] h none))
 
 pub short-text : (rule : Rule) (N K D : ℕ) (n m : ℕ → ℤ) (total F R H : ℤ) (mean : Mean) → N < 2 ^ 64 → K ≤ max_edges → D < 2 ^ 64 → ((v : ℕ) → v < K → nat_abs (n v) < 2 ^ 64) → ((v : ℕ) → v < K → nat_abs (m v) < 2 ^ 64)
     → nat_abs total < 2 ^ 64 → nat_abs F < 2 ^ 64 → nat_abs R < 2 ^ 64 → nat_abs H < 2 ^ 64 → LowMean mean → fit_text_by long_signed rule N K D n m total F R H mean ≡ fit_text rule N K D n m total F R H mean

@@ -11,7 +11,7 @@ ghost use Rattle.long_lines.specs.LongLines.{long_page_size};
 ghost use Rattle.long_fit_lines.specs.LongTexts.{long_fit_of};
 ghost use Rattle.long_prints.specs.LongPrints.{long_text};
 
-use verdict::{Rule, Verdict};
+use verdict::Rule;
 
 // The print of long lengths beside a matrix and a tree that pass: what they are refused for, or their numbers.
 fn print_lengths(
@@ -27,13 +27,9 @@ fn print_lengths(
     requires long_page_size_in_bounds { long_page_size ≤ length text.old }
     ensures { Wrote text.old text.new 0 (by_answer (long_proposal_tests rule n distances.now parents.now d.now digits.now) (long_fit_of rule n distances.now parents.now d.now digits.now)) result }
 {
-    let verdict = long_judging::judge_long_proposal(rule, n, distances, parents, d, digits);
-    match verdict {
-        Verdict::Refused(refusal) => {
-            let place = refusal.place;
-            lines::refused_line(text, 0, verdict::number(Verdict::Refused(refusal)), place)
-        }
-        Verdict::Accepted => {
+    match long_judging::judge_long_proposal(rule, n, distances, parents, d, digits) {
+        Err(refusal) => lines::refused_line(text, 0, u32::from(refusal.reason), refusal.place),
+        Ok(()) => {
             let report = long_reporting::long_numbered(rule, n, distances, parents, d, digits);
             long_fit_lines::long_fit_text(text, rule, d, digits, report)
         }
@@ -45,12 +41,12 @@ pub fn print_long(rule: Rule, s: &[u8], text: &mut [u8]) -> usize
     requires { long_page_size ≤ length text.old }
     ensures { Wrote text.old text.new 0 (long_text rule s.now) result }
 {
-    let sheet = long_reading::read_long(s);
-    let of_reader = sheet.verdict;
-    if let Verdict::Refused(refusal) = of_reader {
-        let place = refusal.place;
-        return lines::refused_line(text, 0, verdict::number(Verdict::Refused(refusal)), place);
-    }
+    let sheet = match long_reading::read_long(s) {
+        Ok(sheet) => sheet,
+        Err(refusal) => {
+            return lines::refused_line(text, 0, u32::from(refusal.reason), refusal.place);
+        }
+    };
     let pairs = sheet.pairs;
     let parents = sheet.parents;
     let end = sheet.end;
@@ -58,7 +54,7 @@ pub fn print_long(rule: Rule, s: &[u8], text: &mut [u8]) -> usize
     let count = levels * sheet.edges;
     let distances = sheet.distances;
     let d = long_decoding::denominator_digits(s, sheet.denominator, levels);
-    let mut digits = long_decoding::no_digits();
+    let mut digits: [i64; long_decoding::MAX_DIGITS] = arrays::filled(0);
     long_decoding::digits_into(s, sheet.numerators, count, &mut digits[..count]);
     print_lengths(
         rule,

@@ -2,6 +2,7 @@
 #![tactic(auto)]
 
 ghost use Rattle.std.specs.Prelude.{◌≡◌, ◌+◌, ◌≤◌, length};
+ghost use Rattle.streams.specs.Reads.{came_to};
 ghost use Rattle.pages.specs.Texts.{ShownOn};
 ghost use Rattle.long_records.specs.LongForm.{max_long};
 ghost use Rattle.long_lines.specs.LongLines.{long_page_size};
@@ -9,32 +10,16 @@ ghost use Rattle.long_programs.specs.LongAnswers.{long_answer_text};
 
 use long_pages::LONG_PAGE;
 use long_records::MAX_LONG;
-use streams::Taken;
 use verdict::Rule;
 
-// Zeros, one byte more than a long sheet may have: whatever follows, a longer one is refused for its length.
-fn room() -> [u8; MAX_LONG + 1]
-    ensures { max_long + 1 ≡ length result }
-{
-    [0; MAX_LONG + 1]
-}
-
-// A blank long page.
-fn page() -> [u8; LONG_PAGE]
-    ensures { long_page_size ≡ length result }
-{
-    [0; LONG_PAGE]
-}
-
 // The text that is to go out, at the front of a long page, and how many bytes it has: the print of what was read, or nothing where a read failed.
-fn answer(rule: Rule, taken: Taken, space: &[u8], text: &mut [u8]) -> usize
-    requires { taken.count ≤ length space.now }
+fn answer(rule: Rule, taken: Result<usize, usize>, space: &[u8], text: &mut [u8]) -> usize
+    requires { came_to taken ≤ length space.now }
     ensures { ShownOn long_page_size (long_answer_text rule taken space.now) text.old text.new result }
 {
-    if !taken.whole {
+    let Ok(count) = taken else {
         return 0;
-    }
-    let count = taken.count;
+    };
     let sheet = &space[..count];
     match rule {
         Rule::Plain => long_pages::long_print(sheet, text),
@@ -44,8 +29,8 @@ fn answer(rule: Rule, taken: Taken, space: &[u8], text: &mut [u8]) -> usize
 
 // The whole of a program. Where reading fails it writes nothing to standard output.
 pub fn show(rt: &(impl Input + Print + Eprint), rule: Rule) {
-    let mut space = room();
+    let mut space: [u8; MAX_LONG + 1] = arrays::filled(0);
     let taken = streams::take_in(rt, &mut space);
-    let mut text = page();
+    let mut text: [u8; LONG_PAGE] = arrays::filled(0);
     streams::put_out(rt, answer(rule, taken, &space, &mut text), &text);
 }

@@ -10,8 +10,8 @@ use borrow.Author.Tests.{ltb-false, eqb-true, eqb-false, not-false}
 use lib.Dec.{eqb, ltb}
 use lib.ListN.{length}
 use Rattle.exact.proofs.Fill.{length-table}
-use Rattle.verdict.specs.declared.Verdict.TheVariants.{Accepted}
-use Rattle.verdict.specs.Answer.{pass, answer_of, test, ◌or_else◌}
+use Rattle.std.specs.Prelude.{Ok}
+use Rattle.verdict.specs.Answer.{pass, test, ◌or_else◌}
 use Rattle.verdict.proofs.Answers.{or_else_pass, test-pass, or_none}
 use Rattle.tree_theory.specs.Limits.{max_edges}
 use Rattle.fit_theory.specs.Stands.{Posted}
@@ -31,7 +31,7 @@ use Rattle.long_reading.specs.LongReads.{LongHeld, LongAnswer}
 
 -- what is front's of a long sheet, beside the distances
 abbrev pub front_of : LongSheet → Front
-front_of r = record { verdict = r.verdict; strains = r.strains; pairs = r.pairs; parents = r.parents; end = r.end }
+front_of r = record { strains = r.strains; pairs = r.pairs; parents = r.parents; end = r.end }
 
 pub record Parts (s : List ℕ) (r : LongSheet) : Type 0 where
   pub posted : Posted (strains_of s) (distances_of s) (parents_of s)
@@ -47,8 +47,8 @@ pub record Parts (s : List ℕ) (r : LongSheet) : Type 0 where
   pub numerators : r.numerators ≡ numerators_at s
   pub numerators-there : r.numerators + 4 * (r.levels * r.edges) ≤ length s
 
-pub accepted : (s : List ℕ) (r : LongSheet) → LongAnswer s r → r.verdict ≡ Accepted → long_read_tests s ≡ pass
-accepted s r a e = sym a.answer ∙ ap answer_of e
+pub accepted : (s : List ℕ) (r : LongSheet) → LongAnswer s (Ok r) → long_read_tests s ≡ pass
+accepted s r a = sym a.answer
 
 module _ (s : List ℕ) (z : long_read_tests s ≡ pass) where
   pub form-passes : long_form_tests s ≡ pass
@@ -102,5 +102,5 @@ module _ (s : List ℕ) (z : long_read_tests s ≡ pass) where
     }
 
 -- by the reader's answer
-pub read-parts : (s : List ℕ) (r : LongSheet) → LongAnswer s r → r.verdict ≡ Accepted → Parts s r
-read-parts s r a e = let z = accepted s r a e in parts s z r (a.held z)
+pub read-parts : (s : List ℕ) (r : LongSheet) → LongAnswer s (Ok r) → Parts s r
+read-parts s r a = parts s (accepted s r a) r a.held

@@ -1,7 +1,8 @@
--- What the reader of a long sheet hands over: its answer, and, where that passes, what the records hold; zeros where it does not.
-use Rattle.std.specs.Prelude.{◌≡◌, List, ℕ}
-use Rattle.exact.specs.Table.{table, padded}
-use Rattle.verdict.specs.Answer.{pass, answer_of}
+-- What the reader of a long sheet hands over: its answer, and, where that passes, what the records hold.
+use Rattle.std.specs.Prelude.{◌≡◌, List, ℕ, Result, IfOk}
+use Rattle.exact.specs.Table.{padded}
+use Rattle.verdict.specs.Answer.{answer_of}
+use Rattle.verdict.specs.declared.Refusal.{Refusal}
 use Rattle.matrix.specs.Limits.{max_pairs}
 use Rattle.matrix.specs.Place.{pair_count}
 use Rattle.records.specs.Form.{start_of}
@@ -22,20 +23,7 @@ pub record LongHeld (s : List ℕ) (r : LongSheet) : Type 0 where
   pub denominator : r.denominator ≡ denominator_at s
   pub numerators : r.numerators ≡ numerators_at s
 
--- zeros everywhere
-pub record LongBlank (r : LongSheet) : Type 0 where
-  pub strains : r.strains ≡ 0
-  pub pairs : r.pairs ≡ 0
-  pub distances : r.distances ≡ table max_pairs (λ _. 0)
-  pub parents : r.parents ≡ 0
-  pub end : r.end ≡ 0
-  pub levels : r.levels ≡ 0
-  pub edges : r.edges ≡ 0
-  pub denominator : r.denominator ≡ 0
-  pub numerators : r.numerators ≡ 0
-
 -- the whole answer
-pub record LongAnswer (s : List ℕ) (r : LongSheet) : Type 0 where
-  pub answer : answer_of r.verdict ≡ long_read_tests s
-  pub held : long_read_tests s ≡ pass → LongHeld s r
-  pub blank : (long_read_tests s ≡ pass → ⊥) → LongBlank r
+pub record LongAnswer (s : List ℕ) (r : Result LongSheet Refusal) : Type 0 where
+  pub answer : answer_of r ≡ long_read_tests s
+  pub held : IfOk r (λ x. LongHeld s x)

@@ -9,7 +9,7 @@ use long_lengths::MAX_LEVELS;
 use matrix::Matrix;
 use records::Layout;
 use tree::Tree;
-use verdict::{Place, Reason, Refusal, Verdict};
+use verdict::{Place, Reason, Refusal};
 
 // The most bytes of a long sheet: three heads, and the bodies of the largest matrix, tree and long lengths.
 pub const MAX_LONG: usize = 3 * Layout::HEAD
@@ -19,36 +19,26 @@ pub const MAX_LONG: usize = 3 * Layout::HEAD
 
 // Where the three records of a long sheet start and the last one ends: 1; 2, 3, 4 for each record in turn; 5 at the first byte behind
 // the last.
-pub fn long_layout(s: &[u8]) -> Layout
+pub fn long_layout(s: &[u8]) -> Result<Layout, Refusal>
     ensures { Laid (long_form_tests s.now) 3 s.now result }
 {
     if s.len() > MAX_LONG {
-        return records::refused(Refusal {
+        return Err(Refusal {
             reason: Reason::SheetTooLong,
             place: Place::Nowhere,
         });
     }
-    let laid = records::in_turn(s, 2);
-    let of_pair = laid.verdict;
-    if let Verdict::Refused(refusal) = of_pair {
-        return records::refused(refusal);
-    }
+    let laid = records::in_turn(s, 2)?;
     let at = laid.starts[2];
-    let of_lengths = records::one_record(s, at, Layout::LONG);
-    if let Verdict::Refused(refusal) = of_lengths {
-        return records::refused(refusal);
-    }
+    records::one_record(s, at, Layout::LONG)?;
     let end = at + Layout::HEAD + endian::u32_at(s, at) as usize;
     if end < s.len() {
-        return records::refused(Refusal {
+        return Err(Refusal {
             reason: Reason::BytesLeft,
             place: Place::Byte(end),
         });
     }
     let mut starts = laid.starts;
     starts[3] = end;
-    Layout {
-        verdict: Verdict::Accepted,
-        starts,
-    }
+    Ok(Layout { starts })
 }

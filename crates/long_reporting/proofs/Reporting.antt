@@ -28,8 +28,8 @@ use Rattle.matrix.specs.Place.{distance, pair_count, some_missing}
 use Rattle.matrix.specs.Proper.{Proper}
 use Rattle.matrix.proofs.Completes.{known-near}
 use Rattle.matrix.proofs.Places.{pairs-few}
-use Rattle.mean.specs.declared.Mean.{Mean}
-use Rattle.mean.specs.declared.Mean.TheVariants.{None, Over}
+use Rattle.mean.specs.Mean.{Mean}
+use Rattle.std.specs.Prelude.{Some, None}
 use Rattle.mean.specs.Mean.{times, mean_of}
 use Rattle.tree_theory.specs.Limits.{max_edges}
 use Rattle.tree_theory.specs.EdgeTable.{EdgeTable}
@@ -72,37 +72,6 @@ module _ (K : ℕ) (f : ℕ → ℤ) where
 
   pub rounding-end : (v : ℕ) (r : List ℤ) → K ≤ v → Rounding K f v r → EdgeTable K f r × ((u : ℕ) → u < K → nat_abs (entry_of r u) ≤ 100000000001)
   rounding-end v r h w = (fill_end K f v r h w.filling, λ u l. w.near u (omega arith))
-
--- ---- the mean square: D times the count that is left, which is what it is over where D is 1
-is_none : Mean → Bool
-is_none None = true
-is_none (Over z) = false
-
-count : Mean → ℤ
-count None = pos 0
-count (Over z) = z
-
-by-none : (b : Bool) (k D : ℕ) → None ≡ cond b None (times 1 k) → cond b None (times D k) ≡ None
-unfolding is_none
-by-none true k D e = refl
-by-none false zero D e = refl
-by-none false (suc k) D e = absurd (true≢false (ap is_none e))
-
-by_over : (b : Bool) (k D : ℕ) (z : ℤ) → Over z ≡ cond b None (times 1 k) → (z ≡ pos k) × (cond b None (times D k) ≡ Over (pos (D * k)))
-unfolding is_none count
-by_over true k D z e = absurd (true≢false (sym (ap is_none e)))
-by_over false zero D z e = absurd (true≢false (sym (ap is_none e)))
-by_over false (suc k) D z e = (ap count e ∙ ap pos (omega arith), refl)
-
-module _ (L N : ℕ) (ds : List ℕ) (K D : ℕ) (digits : List ℕ) where
-  pub means-none : None ≡ mean_of N ds K 1 → Means L (mean_of N ds K D) false digits
-  means-none e = rw (by-none (some_missing ds) (pair_count N - K) D e) refl
-
-  pub over-count : (z : ℤ) → Over z ≡ mean_of N ds K 1 → z ≡ pos (pair_count N - K)
-  over-count z e = (by_over (some_missing ds) (pair_count N - K) D z e).0
-
-  pub means-over : (z : ℤ) → Over z ≡ mean_of N ds K 1 → Natural L (D * nat_abs z) digits → Means L (mean_of N ds K D) true digits
-  means-over z e h = rw (by_over (some_missing ds) (pair_count N - K) D z e).1 (refl, nn-pos (D * (pair_count N - K)), subst (λ (k : ℕ). Natural L (D * k) digits) (ap nat_abs (over-count z e)) h)
 
 -- ---- a fit in digits
 module _ (rule : Rule) (N : ℕ) (ds ps Ds : List ℕ) (ns : List ℤ) (s : LongStands rule N ds ps Ds ns) where
@@ -171,19 +140,6 @@ module _ (rule : Rule) (N : ℕ) (ds ps Ds : List ℕ) (ns : List ℤ) (s : Long
     pub r-fits : Fits63 (sum_r (pairs N) K (parts_in ds ps) (distance ds) (entry_of ms))
     r-fits = let (low, high) = r-range rule N ds ps D n s.fitted in subst Fits63 (sym r-same) (record { low = low; high = ≤_trans high (record { le = tt }) })
 
--- ---- the count that is left, as the code has it
-module _ (z : ℤ) (k : ℕ) (e : z ≡ pos k) (few : k ≤ 2016) where
-  count-back : to_z w64 (of_z w64 z) ≡ pos k
-  count-back = back z (omega (arith, ap nat_abs e)) ∙ e
-
-  pub count_cast : T (non_neg (to_z w64 (of_z w64 z))) × Fits w32 (nat_abs (to_z w64 (of_z w64 z)))
-  count_cast = subst (λ (y : ℤ). T (non_neg y) × Fits w32 (nat_abs y)) (sym count-back) (tt, record { fits = omega arith })
-
-  pub count-few : nat_abs (to_z w64 (of_z w64 z)) ≤ 1000000
-  count-few = omega (arith, ap nat_abs count-back)
-
-  pub count-is : nat_abs (to_z w64 (of_z w64 z)) ≡ nat_abs z
-  count-is = ap nat_abs (count-back ∙ sym e)
-
+-- ---- the count that is left of the pairs
 pub left-small : {N : ℕ} {ds : List ℕ} (K : ℕ) → Proper N ds → pair_count N - K ≤ 2016
 left-small {N} K m = omega (arith, pairs-few N m.few)

@@ -13,16 +13,11 @@ ghost use Rattle.long_reporting.specs.Reported.{Means, LongReported};
 
 use long_carrying::WIDE;
 use long_numbers::Wide;
-use mean::Mean;
 use tree::Tree;
 use verdict::Rule;
 
-// What the mean square is over, in digits, and whether there is such a number.
-#[derive(Clone, Copy)]
-pub struct LongMean {
-    pub some: bool,
-    pub digits: [u32; WIDE],
-}
+// What the mean square is over, in digits, where it has one.
+pub type LongMean = Option<[u32; WIDE]>;
 
 // The numbers of an accepted fit. The tree length is length / D, the sum of squares f / D, the mean square f over what mean says; the rounded lengths
 // are followed by zeros.
@@ -44,11 +39,9 @@ fn long_rounded(edges: usize, d: &[u32], digits: &[i64]) -> [i64; Tree::MAX_EDGE
     ensures edge_table { EdgeTable edges (λ v. nearest (long_denominator (length d.now) d.now) (long_numerator (length d.now) edges digits.now v)) result }
     ensures by_index { (v : ℕ) → v < edges → nat_abs (entry_of result v) ≤ 100000000001 }
 {
-    let mut lengths = tree::edge_zeros();
-    let mut v = 0;
-    while v < edges {
+    let mut lengths: [i64; Tree::MAX_EDGES] = arrays::filled(0);
+    for v in 0..edges {
         lengths[v] = long_rounding::long_thousandths(edges, d.len(), d, digits, v);
-        v += 1;
     }
     lengths
 }
@@ -57,19 +50,10 @@ fn long_rounded(edges: usize, d: &[u32], digits: &[i64]) -> [i64; Tree::MAX_EDGE
 fn long_mean(n: u32, distances: &[u16], edges: usize, d: &[u32]) -> LongMean
     requires proper { Proper n distances.now }
     requires d_len_bound { (length d.now ≤ max_levels) × ((k : ℕ) → get_or d.now k 0 < base) }
-    ensures { Means (length d.now) (mean_of n distances.now edges (long_denominator (length d.now) d.now)) result.some result.digits }
+    ensures { Means (length d.now) (mean_of n distances.now edges (long_denominator (length d.now) d.now)) result }
 {
-    let left = mean::mean_over(n, distances, edges, 1);
-    match left {
-        Mean::None => LongMean {
-            some: false,
-            digits: long_carrying::no_digits(),
-        },
-        Mean::Over(count) => LongMean {
-            some: true,
-            digits: long_numbers::long_times(d.len(), d, count as u32),
-        },
-    }
+    let left = mean::mean_over(n, distances, edges, 1)?;
+    Some(long_numbers::long_times(d.len(), d, left as u32))
 }
 
 // The numbers of lengths in digits that fit.

@@ -32,6 +32,7 @@ fn greatest(edges: usize, levels: usize, d: &[u32], digits: &[i64], v: usize) ->
 {
     let mut low: u64 = 0;
     let mut high: u64 = 200_000_000_001;
+    // Halving; no index is counted.
     while low + 1 < high {
         let mid = low + (high - low) / 2;
         if reach(edges, levels, d, digits, v, mid) < 0 {

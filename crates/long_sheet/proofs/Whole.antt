@@ -4,15 +4,14 @@ use mathlib.Core.Path.{◌≡◌, refl, sym, ap, ◌∙◌}
 use mathlib.Core.List.{List}
 use Prim.Native.Nat.{ℕ}
 use Rattle.verdict.specs.declared.Refusal.{Refusal}
-use Rattle.verdict.specs.declared.Verdict.TheVariants.{Refused}
+use Rattle.std.specs.Prelude.{Err}
 use Rattle.verdict.specs.declared.Rule.{Rule}
-use Rattle.verdict.specs.Answer.{Answer, pass, fault, answer_of, refusal_of, test, ◌or_else◌}
+use Rattle.verdict.specs.Answer.{Answer, pass, fault, refusal_of, test, ◌or_else◌}
 use Rattle.matrix.specs.Tests.{matrix_tests}
 use Rattle.fit_theory.specs.Tests.{posted_tests}
 use Rattle.front.specs.Holds.{strains_of, distances_of, parents_of}
 use Rattle.front.specs.Tests.{strains_differ}
 use Rattle.long_records.specs.LongForm.{long_form_tests}
-use Rattle.long_reading.specs.declared.LongSheet.{LongSheet}
 use Rattle.long_reading.specs.LongTests.{long_edges_differ, levels_out, long_read_tests}
 use Rattle.long_reading.specs.LongReads.{LongAnswer}
 use Rattle.long_sheet.specs.LongSheets.{long_lengths_of, long_sheet_tests}
@@ -34,7 +33,5 @@ module _ (rule : Rule) (s : List ℕ) where
   pub lengths-asked : long_read_tests s ≡ pass → long_sheet_tests rule s ≡ long_lengths_of rule s
   lengths-asked z = by_reader ∙ ap (λ (a : Answer). a or_else long_lengths_of rule s) z
 
-  pub refused-whole : (r : LongSheet) (q : Refusal) → LongAnswer s r → r.verdict ≡ Refused q → refusal_of q ≡ long_sheet_tests rule s
-  refused-whole r q a e =
-      let told : long_read_tests s ≡ refusal_of q = sym a.answer ∙ ap answer_of e in
-      sym (by_reader ∙ ap (λ (b : Answer). b or_else long_lengths_of rule s) told)
+  pub refused-whole : (q : Refusal) → LongAnswer s (Err q) → refusal_of q ≡ long_sheet_tests rule s
+  refused-whole q a = sym (by_reader ∙ ap (λ (b : Answer). b or_else long_lengths_of rule s) (sym a.answer))

@@ -12,11 +12,7 @@ use verdict::{Rule, Verdict};
 pub fn long_judge(rule: Rule, s: &[u8]) -> Verdict
     ensures { answer_of result ≡ long_sheet_tests rule s.now }
 {
-    let sheet = long_reading::read_long(s);
-    let of_reader = sheet.verdict;
-    if let Verdict::Refused(refusal) = of_reader {
-        return Verdict::Refused(refusal);
-    }
+    let sheet = long_reading::read_long(s)?;
     let pairs = sheet.pairs;
     let parents = sheet.parents;
     let end = sheet.end;
@@ -24,7 +20,7 @@ pub fn long_judge(rule: Rule, s: &[u8]) -> Verdict
     let count = levels * sheet.edges;
     let distances = sheet.distances;
     let d = long_decoding::denominator_digits(s, sheet.denominator, levels);
-    let mut digits = long_decoding::no_digits();
+    let mut digits: [i64; long_decoding::MAX_DIGITS] = arrays::filled(0);
     long_decoding::digits_into(s, sheet.numerators, count, &mut digits[..count]);
     long_judging::judge_long_proposal(
         rule,
@@ -40,7 +36,7 @@ pub fn long_judge(rule: Rule, s: &[u8]) -> Verdict
 fn long_number(rule: Rule, s: &[u8]) -> u32
     ensures { result ≡ number (long_sheet_tests rule s.now) }
 {
-    verdict::number(long_judge(rule, s))
+    verdict::number(&long_judge(rule, s))
 }
 
 // The number that a long sheet gets, 0 where it is accepted. The crate long_sheet_c exports both verdicts to C.

@@ -34,24 +34,15 @@ pub fn next_digit(high: i64, digit: i64) -> i64
     whole
 }
 
-// Zeros, by a function of its own: proofs then carry a name in place of every entry.
-fn no_tops() -> [i64; Tree::MAX_EDGES]
-    ensures { result ≡ table max_edges (λ _. pos 0) }
-{
-    [0; Tree::MAX_EDGES]
-}
-
 // Each edge's number over the digits so far, with the next digit's.
 fn next_level(edges: usize, tops: &[i64; Tree::MAX_EDGES], sums: &[i64]) -> [i64; Tree::MAX_EDGES]
     requires edges_le_max_edges { edges ≤ max_edges }
     requires levels { Levels edges tops.now sums.now }
     ensures { EdgeTable edges (λ v. clamp most (pos base *ℤ entry_of tops.now v +ℤ entry_of sums.now v)) result }
 {
-    let mut next = no_tops();
-    let mut v = 0;
-    while v < edges {
+    let mut next: [i64; Tree::MAX_EDGES] = arrays::filled(0);
+    for v in 0..edges {
         next[v] = next_digit(tops[v], sums[v]);
-        v += 1;
     }
     next
 }
@@ -73,7 +64,7 @@ fn level_sums(
     if matrix::some_missing(distances) {
         return edge_sums::edge_sums(n, edges, d, distances, parents, masks, digits);
     }
-    let mut sums = no_tops();
+    let mut sums: [i64; Tree::MAX_EDGES] = arrays::filled(0);
     edge_numbers::remainders(n, edges, d, distances, parents, digits, &mut sums);
     sums
 }
@@ -93,14 +84,12 @@ pub fn long_sums(
     requires { LongReady n edges levels d.now distances.now parents.now masks.now digits.now }
     ensures { LongSums n edges levels d.now distances.now parents.now digits.now result }
 {
-    let mut tops = no_tops();
+    let mut tops: [i64; Tree::MAX_EDGES] = arrays::filled(0);
     let mut at = 0;
-    let mut k = 0;
-    while k < levels {
+    for k in 0..levels {
         let sums = level_sums(n, edges, d[k], distances, parents, masks, &digits[at..]);
         tops = next_level(edges, &tops, &sums);
         at += edges;
-        k += 1;
     }
     tops
 }
@@ -110,13 +99,11 @@ pub fn long_tops(edges: usize, levels: usize, digits: &[i64]) -> [i64; Tree::MAX
     requires { LongDigits edges levels digits.now }
     ensures { EdgeTable edges (λ v. clamp most (long_numerator levels edges digits.now v)) result }
 {
-    let mut tops = no_tops();
+    let mut tops: [i64; Tree::MAX_EDGES] = arrays::filled(0);
     let mut at = 0;
-    let mut k = 0;
-    while k < levels {
+    for k in 0..levels {
         tops = next_level(edges, &tops, &digits[at..]);
         at += edges;
-        k += 1;
     }
     tops
 }

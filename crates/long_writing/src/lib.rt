@@ -29,10 +29,8 @@ fn put_sixes(text: &mut [u8], at: usize, from: usize, levels: usize, digits: &[u
     ensures { Wrote text.old text.new at (sixes from (levels - from) (λ k. get_or digits.now k 0)) result }
 {
     let mut next = at;
-    let mut k = from;
-    while k < levels {
+    for k in from..levels {
         next = put_six(text, next, digits[k]);
-        k += 1;
     }
     next
 }
@@ -42,14 +40,12 @@ fn first_digit(levels: usize, digits: &[u32]) -> usize
     requires { levels ≤ length digits.now }
     ensures { FirstDigit levels (λ k. get_or digits.now k 0) result }
 {
-    let mut k = 0;
-    while k < levels {
+    for k in 0..levels {
         if digits[k] != 0 {
             return k;
         }
-        k += 1;
     }
-    k
+    levels
 }
 
 // The number that so many digits write, in decimals, without needless zeros.

@@ -6,11 +6,8 @@ use borrow.Author.Tests.{lt-ltb, le-ltb, eq-eqb, ne_eqb}
 use mathlib.Core.Bool.{true, false}
 use mathlib.Core.Logic.{◌≢◌}
 use lib.ListN.{length}
-use Rattle.verdict.specs.Answer.{fault, pass, answer_of}
-use Rattle.verdict.proofs.Answers.{refuses}
+use Rattle.verdict.specs.Answer.{fault, pass}
 use Rattle.verdict.specs.declared.Place.TheVariants.{Nowhere}
-use Rattle.matrix.specs.declared.Survey.{Survey}
-use Rattle.matrix.specs.Surveys.{Surveyed}
 use Rattle.matrix.specs.Tests.{matrix_tests, distance_out}
 use Rattle.matrix.specs.Limits.{min_strains, max_strains}
 use Rattle.matrix.specs.Place.{pair_count}
@@ -33,7 +30,3 @@ module _ (N : ℕ) (ds : List ℕ) where
 
         pub is-0 : distance_out ds ≡ false → pass ≡ matrix_tests N ds
         is-0 h = simp (eq-eqb (length ds) (pair_count N) whole, le-ltb N min_strains low, le-ltb max_strains N high, h)
-
--- a survey that refuses says nothing of missing pairs
-pub survey_refused : (N : ℕ) (ds : List ℕ) (r : Survey) (k : ℕ) → (answer_of r.verdict ≡ fault k Nowhere) × (r.missing ≡ false) → fault k Nowhere ≡ matrix_tests N ds → Surveyed N ds r
-survey_refused N ds r k a e = record { answer = a.0 ∙ e; some-missing = λ z. absurd (refuses k Nowhere (e ∙ z)); unread = λ _. a.1 }

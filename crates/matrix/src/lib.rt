@@ -1,29 +1,22 @@
 // The matrix of distances: its limits, its tests, and where a pair of strains stands.
 #![tactic(auto)]
 
-ghost use Rattle.std.specs.Prelude.{◌≡◌, false, ◌≢◌, ◌+◌, ◌≤◌, ◌<◌, length, get_or};
+ghost use Rattle.std.specs.Prelude.{◌≡◌, ◌≢◌, ◌+◌, ◌≤◌, ◌<◌, length, get_or};
 ghost use Rattle.exact.specs.Table.{table};
-ghost use Rattle.verdict.specs.Answer.{fault, answer_of, reason_number};
+ghost use Rattle.verdict.specs.Answer.{answer_of};
 ghost use Rattle.matrix.specs.Limits.{min_strains, max_strains, max_distance, missing, max_pairs};
 ghost use Rattle.matrix.specs.Place.{pair_count, place, pair_place, row_place, some_missing};
 ghost use Rattle.matrix.specs.Tests.{matrix_tests};
 ghost use Rattle.matrix.specs.Kept.{MatrixAnswer};
 ghost use Rattle.matrix.specs.Surveys.{Looked, Surveyed};
 
-use verdict::{Place, Reason, Refusal, Verdict};
+use verdict::{Reason, Refusal, Verdict};
 
 // The distances between n strains, in the order 01, 02, 12, 03, 13, 23, .., then zeros: a strain appends.
 #[derive(Clone, Copy)]
 pub struct Matrix {
     pub n: usize,
     pub distances: [u16; Matrix::MAX_PAIRS],
-}
-
-// What a lent matrix gets: the answer, and the matrix where it is accepted.
-#[derive(Clone, Copy)]
-pub struct Measured {
-    pub verdict: Verdict,
-    pub matrix: Matrix,
 }
 
 impl Matrix {
@@ -37,26 +30,15 @@ impl Matrix {
     // As many pairs as the most strains have.
     pub const MAX_PAIRS: usize = Matrix::MAX_STRAINS * (Matrix::MAX_STRAINS - 1) / 2;
 
-    // The answer of the check, and the matrix where it is accepted; a refusal carries no strains and zeros.
-    pub fn new(n: u32, distances: &[u16]) -> Measured
+    // The matrix, where the check accepts it.
+    pub fn new(n: u32, distances: &[u16]) -> Result<Matrix, Refusal>
         ensures { MatrixAnswer n distances.now result }
     {
-        match check_matrix(n, distances) {
-            Verdict::Accepted => Measured {
-                verdict: Verdict::Accepted,
-                matrix: Matrix {
-                    n: n as usize,
-                    distances: copied(distances),
-                },
-            },
-            Verdict::Refused(refusal) => Measured {
-                verdict: Verdict::Refused(refusal),
-                matrix: Matrix {
-                    n: 0,
-                    distances: no_distances(),
-                },
-            },
-        }
+        check_matrix(n, distances)?;
+        Ok(Matrix {
+            n: n as usize,
+            distances: copied(distances),
+        })
     }
 }
 
@@ -141,63 +123,31 @@ fn look(distances: &[u16]) -> Seen
 {
     let mut out = false;
     let mut missing = false;
-    let mut k = 0;
-    while k < distances.len() {
-        let far = distances[k];
-        if far > Matrix::MAX_DISTANCE {
-            if far == Matrix::MISSING {
+    for far in distances {
+        if *far > Matrix::MAX_DISTANCE {
+            if *far == Matrix::MISSING {
                 missing = true;
             } else {
                 out = true;
             }
         }
-        k += 1;
     }
     Seen { out, missing }
 }
 
-// The answer to a matrix, and where it passes whether some pair is missing.
-#[derive(Clone, Copy)]
-pub struct Survey {
-    pub verdict: Verdict,
-    pub missing: bool,
-}
-
-// A refusal, which says nothing of pairs that are missing.
-fn unread(reason: Reason) -> Survey
-    ensures { (answer_of result.verdict ≡ fault (reason_number reason) Place.Nowhere) × (result.missing ≡ false) }
-{
-    Survey {
-        verdict: Verdict::Refused(Refusal {
-            reason,
-            place: Place::Nowhere,
-        }),
-        missing: false,
-    }
-}
-
-// 4, 6, 7, the first that applies, for any n and any slice.
-pub fn survey_matrix(n: u32, distances: &[u16]) -> Survey
+// 4, 6, 7, the first that applies, for any n and any slice; of a matrix that passes, whether some pair is missing.
+pub fn survey_matrix(n: u32, distances: &[u16]) -> Result<bool, Refusal>
     ensures { Surveyed n distances.now result }
 {
-    if distances.len() as u64 != pair_count(n) {
-        return unread(Reason::WrongCounts);
-    }
+    refusing::test(Reason::WrongCounts, distances.len() as u64 != pair_count(n))?;
     let strains = n as usize;
-    if strains < Matrix::MIN_STRAINS {
-        return unread(Reason::Strains);
-    }
-    if strains > Matrix::MAX_STRAINS {
-        return unread(Reason::Strains);
-    }
+    refusing::test(
+        Reason::Strains,
+        strains < Matrix::MIN_STRAINS || Matrix::MAX_STRAINS < strains,
+    )?;
     let found = look(distances);
-    if found.out {
-        return unread(Reason::Distance);
-    }
-    Survey {
-        verdict: Verdict::Accepted,
-        missing: found.missing,
-    }
+    refusing::test(Reason::Distance, found.out)?;
+    Ok(found.missing)
 }
 
 // Whether some pair is missing.
@@ -211,14 +161,8 @@ pub fn some_missing(distances: &[u16]) -> bool
 pub fn check_matrix(n: u32, distances: &[u16]) -> Verdict
     ensures { answer_of result ≡ matrix_tests n distances.now }
 {
-    survey_matrix(n, distances).verdict
-}
-
-// A matrix of no distances: zeros, by a function of its own, so that proofs carry a name in place of every entry.
-pub fn no_distances() -> [u16; Matrix::MAX_PAIRS]
-    ensures { result ≡ table max_pairs (λ _. 0) }
-{
-    [0; Matrix::MAX_PAIRS]
+    survey_matrix(n, distances)?;
+    Ok(())
 }
 
 // The distances, then zeros.
@@ -226,11 +170,5 @@ pub fn copied(distances: &[u16]) -> [u16; Matrix::MAX_PAIRS]
     requires { length distances.now ≤ max_pairs }
     ensures { result ≡ table max_pairs (λ k. get_or distances.now k 0) }
 {
-    let mut kept = no_distances();
-    let mut k = 0;
-    while k < distances.len() {
-        kept[k] = distances[k];
-        k += 1;
-    }
-    kept
+    arrays::padded(distances, 0)
 }

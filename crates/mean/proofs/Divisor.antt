@@ -11,21 +11,21 @@ use lib.IntN.{ℤ, pos}
 use Rattle.exact.proofs.Decide.{by_cases}
 use Rattle.matrix.specs.Place.{pair_count, some_missing, Complete}
 use Rattle.tree_theory.specs.Allowed.{Allowed}
-use Rattle.mean.specs.declared.Mean.{Mean}
-use Rattle.mean.specs.declared.Mean.TheVariants.{None, Over}
+use Rattle.mean.specs.Mean.{Mean}
+use Rattle.std.specs.Prelude.{Some, None}
 use Rattle.mean.specs.Mean.{times, mean_of}
 
 -- where something is left
-pub times-some : (D k : ℕ) → 1 ≤ k → times D k ≡ Over (pos (D * k))
+pub times-some : (D k : ℕ) → 1 ≤ k → times D k ≡ Some (pos (D * k))
 times-some D zero l = absurd (omega (arith, l))
 times-some D (suc k) l = refl
 
-apart : (z : ℤ) → Over z ≡ None → ⊥
+apart : (z : ℤ) → Some z ≡ None → ⊥
 apart z e = subst over e tt
   where
     over : Mean → Type 0
     over None = ⊥
-    over (Over z) = Unit
+    over (Some z) = Unit
 
 pub missing-none : (N : ℕ) (ds : List ℕ) (K D : ℕ) → some_missing ds ≡ true → mean_of N ds K D ≡ None
 missing-none N ds K D e = rw e
@@ -50,7 +50,7 @@ module _ (N K : ℕ) (par : ℕ → ℕ) (a : Allowed N K par) (ds : List ℕ) (
 
   -- of a complete matrix
   module _ (all : Complete ds) where
-    pub four-over : 4 ≤ N → (mean_of N ds K D ≡ Over (pos (D * (pair_count N - K)))) × (D ≤ D * (pair_count N - K))
+    pub four-over : 4 ≤ N → (mean_of N ds K D ≡ Some (pos (D * (pair_count N - K)))) × (D ≤ D * (pair_count N - K))
     four-over h = (complete-times N ds K D all ∙ times-some D (pair_count N - K) (some_left h), le-mul_of_pos_right {m = pair_count N - K} D (some_left h))
 
     -- so there is none exactly for three

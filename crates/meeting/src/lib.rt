@@ -15,13 +15,6 @@ ghost use Rattle.meeting.specs.Meeting.{farthest_way, pair_mass, LowestStrain, C
 use matrix::Matrix;
 use tree::Tree;
 
-// Shares of no vertex.
-pub fn no_shares() -> [i64; Tree::MAX_VERTICES]
-    ensures { result ≡ table max_vertices (λ _. pos 0) }
-{
-    [0; Tree::MAX_VERTICES]
-}
-
 // Adds x to the share of vertex k.
 pub fn put(own: &mut [i64; Tree::MAX_VERTICES], k: usize, x: i64)
     requires own_len { (length own.old ≡ max_vertices) × (k < max_vertices) }
@@ -62,13 +55,6 @@ pub fn lowest_strain(mask: u64) -> Low
     }
 }
 
-// Ways that have not begun.
-pub fn no_ways() -> [i64; Matrix::MAX_STRAINS]
-    ensures { result ≡ table max_strains (λ _. pos 0) }
-{
-    [0; Matrix::MAX_STRAINS]
-}
-
 // Carries the strains of a mask over an edge: their ways are longer by x.
 pub fn carry(ways: &mut [i64; Matrix::MAX_STRAINS], here: u64, x: i64)
     requires ways_len { length ways.old ≡ max_strains }
@@ -77,6 +63,7 @@ pub fn carry(ways: &mut [i64; Matrix::MAX_STRAINS], here: u64, x: i64)
     ensures { Carried here x ways.old ways.new }
 {
     let mut left = here;
+    // A mask is walked by its lowest bit; no index is counted.
     while left != 0 {
         let low = lowest_strain(left);
         let i = low.strain;
@@ -123,6 +110,7 @@ fn row(
 {
     let mut whole = 0;
     let mut left = there;
+    // A mask is walked by its lowest bit; no index is counted.
     while left != 0 {
         let low = lowest_strain(left);
         let i = low.strain;
@@ -153,6 +141,7 @@ fn join(
     ensures { Met d distances.now ways.now here there m own.old own.new }
 {
     let mut left = here;
+    // A mask is walked by its lowest bit; no index is counted.
     while left != 0 {
         let low = lowest_strain(left);
         let j = low.strain;

@@ -40,6 +40,7 @@ pub fn move_between(
 {
     let mut a = i;
     let mut b = j;
+    // A climb; no index is counted.
     while a != b {
         let ends = ordered(a, b);
         let low = ends.low;

@@ -12,22 +12,14 @@ ghost use Rattle.name_keys.specs.Keyed.{Firsts, Keyed};
 use matrix::Matrix;
 use names::KEYS;
 
-// A table without a strain: no strain has the number 255.
-fn no_strains() -> [u8; KEYS]
-    ensures { length result ≡ keys }
-{
-    [255; KEYS]
-}
-
 // For each key the first of `n` strains whose name has it.
 pub fn first_strains(s: &[u8], from: usize, n: usize) -> [u8; KEYS]
     requires { (n ≤ max_strains) × (name_start s.now from n ≤ length s.now) }
     ensures { Firsts s.now from n result }
 {
-    let mut firsts = no_strains();
+    let mut firsts: [u8; KEYS] = arrays::filled(255);
     let mut at = from;
-    let mut i = 0;
-    while i < n {
+    for i in 0..n {
         let start = at + 1;
         let end = start + s[at] as usize;
         let key = names::key_of(&s[start..end]);
@@ -36,16 +28,8 @@ pub fn first_strains(s: &[u8], from: usize, n: usize) -> [u8; KEYS]
             firsts[key] = strain;
         }
         at = end;
-        i += 1;
     }
     firsts
-}
-
-// A byte as an index.
-fn wide(byte: u8) -> usize
-    ensures { result ≡ byte }
-{
-    byte as usize
 }
 
 // The strain that has a name, `n` where none of `n` strains has it; the names begin at `starts`.
@@ -61,7 +45,7 @@ pub fn find_strain(
     ensures { result ≡ place_of s.now from n name.now }
 {
     let key = names::key_of(name);
-    let i = wide(firsts[key]);
+    let i = usize::from(firsts[key]);
     if i < n {
         let at = starts[i];
         let start = at + 1;

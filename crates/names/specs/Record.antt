@@ -1,14 +1,14 @@
 -- The names of a names record (RULES, Names of strains): `s` below are the bytes that they stand in, `from` is where the first begins, with its
 -- length byte.
-use Rattle.std.specs.Prelude.{◌≡◌, Bool, not, ◌||◌, List, ℕ, ◌+◌, ltb, length, get_or, take, drop}
+use Rattle.std.specs.Prelude.{◌≡◌, Bool, not, ◌||◌, List, ℕ, ◌+◌, ltb, length, get_or, take, drop, Result, IfOk}
 use Rattle.verdict.specs.declared.Place.TheVariants.{Byte}
-use Rattle.verdict.specs.Answer.{Answer, pass, answer_of, test, test_at, ◌or_else◌}
+use Rattle.verdict.specs.declared.Refusal.{Refusal}
+use Rattle.verdict.specs.Answer.{Answer, answer_of, test, test_at, ◌or_else◌}
 use Rattle.verdict.specs.Table.{some, first}
 use Rattle.digits.specs.Digits.{same}
 use Rattle.records.specs.Names.{name_start}
 use Rattle.records.specs.Form.{head_size, names_kind, end_at, names_at, record_tests}
 use Rattle.names.specs.Name.{is_name}
-use Rattle.names.specs.declared.Named.{Named}
 
 -- name i, counted from 0, without its length byte
 unfoldable pub name_of : List ℕ → ℕ → ℕ → List ℕ
@@ -38,8 +38,7 @@ names_tests s =
     or_else test_at 5 (Byte (end_at s 0)) (ltb (end_at s 0) (length s))
     or_else test 28 (names_out s head_size (record_count s))
 
--- the answer, and where it passes N, 0 where it does not
-pub record NamesAnswer (s : List ℕ) (r : Named) : Type 0 where
-  pub answer : answer_of r.verdict ≡ names_tests s
-  pub count : names_tests s ≡ pass → r.count ≡ record_count s
-  pub none : (names_tests s ≡ pass → ⊥) → r.count ≡ 0
+-- the answer, and where it passes N
+pub record NamesAnswer (s : List ℕ) (r : Result ℕ Refusal) : Type 0 where
+  pub answer : answer_of r ≡ names_tests s
+  pub count : IfOk r (λ n. n ≡ record_count s)

@@ -13,17 +13,10 @@ ghost use Rattle.names.specs.Record.{name_of, name_out, names_out, place_of, Nam
 
 use matrix::Matrix;
 use records::Layout;
-use verdict::{Place, Reason, Refusal, Verdict};
+use verdict::{Place, Reason, Refusal};
 
 // The keys that names may have.
 pub const KEYS: usize = 256;
-
-// The answer to a names record that is lent by itself, and how many names it has; 0 where it is refused.
-#[derive(Clone, Copy)]
-pub struct Named {
-    pub verdict: Verdict,
-    pub count: usize,
-}
 
 // Whether a byte is a letter.
 fn is_letter(byte: u8) -> bool
@@ -59,14 +52,12 @@ pub fn name_end(text: &[u8], at: usize) -> usize
     requires { at ≤ length text.now }
     ensures { (result ≡ at + run is_name_byte (drop at text.now)) × (result ≤ length text.now) }
 {
-    let mut end = at;
-    while end < text.len() {
+    for end in at..text.len() {
         if !is_name_byte(text[end]) {
             return end;
         }
-        end += 1;
     }
-    end
+    text.len()
 }
 
 // Whether bytes are a name.
@@ -88,15 +79,13 @@ pub fn strain_of(s: &[u8], from: usize, n: usize, name: &[u8]) -> usize
     ensures { result ≡ place_of s.now from n name.now }
 {
     let mut at = from;
-    let mut i = 0;
-    while i < n {
+    for i in 0..n {
         let size = s[at] as usize;
         let start = at + 1;
         at = start + size;
-        i += 1;
         if size == name.len() {
             if digits::same(&s[start..at], name) {
-                return i - 1;
+                return i;
             }
         }
     }
@@ -108,10 +97,8 @@ pub fn key_of(bytes: &[u8]) -> usize
     ensures { (result ≡ key_from 0 bytes.now) × (result < keys) }
 {
     let mut key = 0;
-    let mut k = 0;
-    while k < bytes.len() {
-        key = (key * 31 + bytes[k] as usize) % KEYS;
-        k += 1;
+    for byte in bytes {
+        key = (key * 31 + *byte as usize) % KEYS;
     }
     key
 }
@@ -133,21 +120,14 @@ fn name_out(s: &[u8], from: usize, i: usize, at: usize, known: bool) -> bool
     strain_of(s, from, i, &s[start..end]) < i
 }
 
-fn no_keys() -> [u8; KEYS]
-    ensures { length result ≡ keys }
-{
-    [0; KEYS]
-}
-
 // 28: whether one of `n` names is not of the form or repeated. A name is looked for among those before it only where one of them has its key.
 pub fn names_out(s: &[u8], from: usize, n: usize) -> bool
     requires { name_start s.now from n ≤ length s.now }
     ensures { result ≡ names_out s.now from n }
 {
-    let mut known = no_keys();
+    let mut known: [u8; KEYS] = arrays::filled(0);
     let mut at = from;
-    let mut i = 0;
-    while i < n {
+    for i in 0..n {
         let start = at + 1;
         let end = start + s[at] as usize;
         let key = key_of(&s[start..end]);
@@ -156,15 +136,8 @@ pub fn names_out(s: &[u8], from: usize, n: usize) -> bool
         }
         known[key] = 1;
         at = end;
-        i += 1;
     }
     false
-}
-
-fn no_starts() -> [usize; Matrix::MAX_STRAINS]
-    ensures { result ≡ table max_strains (λ _. 0) }
-{
-    [0; Matrix::MAX_STRAINS]
 }
 
 // Where each of `n` names begins, then zeros.
@@ -172,49 +145,32 @@ pub fn name_starts(s: &[u8], from: usize, n: usize) -> [usize; Matrix::MAX_STRAI
     requires { (n ≤ max_strains) × (name_start s.now from n ≤ length s.now) }
     ensures { result ≡ padded 0 max_strains n (name_start s.now from) }
 {
-    let mut starts = no_starts();
+    let mut starts: [usize; Matrix::MAX_STRAINS] = arrays::filled(0);
     let mut at = from;
-    let mut i = 0;
-    while i < n {
+    for i in 0..n {
         starts[i] = at;
         at = at + 1 + s[at] as usize;
-        i += 1;
     }
     starts
 }
 
-fn refused(refusal: Refusal) -> Named
-    ensures { (result.verdict ≡ Verdict.Refused refusal) × (result.count ≡ 0) }
-{
-    Named {
-        verdict: Verdict::Refused(refusal),
-        count: 0,
-    }
-}
-
-// A names record that is lent by itself: 2, 3, 4, 5, 28.
-pub fn check_names(s: &[u8]) -> Named
+// How many names a names record has that is lent by itself, or its refusal: 2, 3, 4, 5, 28.
+pub fn check_names(s: &[u8]) -> Result<usize, Refusal>
     ensures { NamesAnswer s.now result }
 {
-    let of_record = records::one_record(s, 0, Layout::NAMES);
-    if let Verdict::Refused(refusal) = of_record {
-        return refused(refusal);
-    }
+    records::one_record(s, 0, Layout::NAMES)?;
     let names = records::names_at(s, 0);
     if names.end < s.len() {
-        return refused(Refusal {
+        return Err(Refusal {
             reason: Reason::BytesLeft,
             place: Place::Byte(names.end),
         });
     }
     if names_out(s, Layout::HEAD, names.count) {
-        return refused(Refusal {
+        return Err(Refusal {
             reason: Reason::Newick,
             place: Place::Nowhere,
         });
     }
-    Named {
-        verdict: Verdict::Accepted,
-        count: names.count,
-    }
+    Ok(names.count)
 }

@@ -17,28 +17,19 @@ use tree::Tree;
 // Room for three children of each vertex.
 pub const CHILD_ROOM: usize = 3 * Tree::MAX_VERTICES;
 
-// Zeros, by a function of their own: proofs then carry a name in place of every entry.
-fn no_children() -> [u8; CHILD_ROOM]
-    ensures { result ≡ table child_room (λ _. 0) }
-{
-    [0; CHILD_ROOM]
-}
-
 // The children of each vertex in rising order: child k of w at 3w + k.
 pub fn child_table(n: usize, parents: &[u8]) -> [u8; CHILD_ROOM]
     requires allowed { Allowed n (length parents.now) (parent_of parents.now) }
     requires resolved { Resolved n (length parents.now) (parent_of parents.now) }
     ensures { Listed (length parents.now) (parent_of parents.now) result }
 {
-    let mut listed = no_children();
-    let mut counts = tree::no_counts();
-    let mut v = 0;
-    while v < parents.len() {
-        let p = parents[v] as usize;
+    let mut listed: [u8; CHILD_ROOM] = arrays::filled(0);
+    let mut counts: [u8; Tree::MAX_VERTICES] = arrays::filled(0);
+    for (v, parent) in parents.iter().enumerate() {
+        let p = *parent as usize;
         let k = counts[p];
         listed[3 * p + k as usize] = v as u8;
         counts[p] = k + 1;
-        v += 1;
     }
     listed
 }

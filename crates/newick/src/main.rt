@@ -7,21 +7,13 @@ ghost use Rattle.records.specs.Form.{max_named};
 
 use records::Layout;
 
-// Zeros, one byte more than a sheet with names may have: whatever follows, a longer one is refused for its length.
-fn room() -> [u8; Layout::MAX_NAMED + 1]
-    ensures { max_named + 1 ≡ length result }
-{
-    [0; Layout::MAX_NAMED + 1]
-}
-
 fn main(rt: HostRuntime) {
-    let mut space = room();
-    let taken = streams::take_in(&rt, &mut space);
-    if taken.whole {
-        let mut out = newick_pages::page();
+    let mut space: [u8; Layout::MAX_NAMED + 1] = arrays::filled(0);
+    if let Ok(count) = streams::take_in(&rt, &mut space) {
+        let mut out: [u8; newick_pages::PAGE] = arrays::filled(0);
         streams::put_out(
             &rt,
-            newick_pages::newick_print(&space[..taken.count], &mut out),
+            newick_pages::newick_print(&space[..count], &mut out),
             &out,
         );
     }

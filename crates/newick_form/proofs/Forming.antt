@@ -19,7 +19,7 @@ use Rattle.newick_text.proofs.Unique.{colon-ends, semicolon_ends, same_name, no_
 use Rattle.newick_words.specs.Words.{name_width, edge_width}
 use Rattle.newick_words.proofs.Edges.{byte-is, first-is, rest-is, NameAt, name-at, no_name, EdgeAt, edge_at, no_edge}
 use Rattle.newick_form.specs.Form.{Stands, FormRead, Found, TextRead}
-use Rattle.newick_form.specs.declared.End.TheVariants.{Nowhere}
+use Rattle.std.specs.Prelude.{None}
 
 -- ---- the two ways in which a formed vertex begins: with a name, or with a bracket and children
 pub data Begins (l : List ℕ) (m : ℕ) (k : List ℕ) : Type 0 where
@@ -40,7 +40,7 @@ row_first t w r lead k = refl
 module _ (s : List ℕ) (a m : ℕ) where
   -- ---- no bracket at a: a name, or nothing
   module _ (bare : get_or s a 0 ≡ 40 → ⊥) (e : ℕ) (is : e ≡ a + name_width (drop a s)) where
-    pub no_vertex : e ≡ a → FormRead s a m Nowhere
+    pub no_vertex : e ≡ a → FormRead s a m None
     no_vertex same t k f stop g = go (begin_of t (drop a s) m k f g)
       where
         go : Begins (drop a s) m k → ⊥
@@ -74,7 +74,7 @@ module _ (s : List ℕ) (a m : ℕ) where
         go (opened v w r p e q) (named z h i) = absurd (no_bracket z l _ h (sym i ∙ byte-is s a 39 here))
         go (opened v w r p e q) (opened z y x i j c) = (same_row (some v w r) (some z y x) (n - 1) (o - 1) 40 k l q c (λ h. omega (arith, h)) (sym e ∙ j)).1
 
-    pub too_deep : m ≡ 0 → FormRead s a m Nowhere
+    pub too_deep : m ≡ 0 → FormRead s a m None
     too_deep none_left t k f stop g = go (begin_of t (drop a s) m k f g)
       where
         go : Begins (drop a s) m k → ⊥
@@ -123,7 +123,7 @@ opens s a m o z = record {
 -- in a turn: from i on a child was sought
 module _ (s : List ℕ) (a m i : ℕ) (w : Rest s a m i) where
   -- there is none
-  pub no-child : FormRead s i (m - 1) Nowhere → FormRead s a m Nowhere
+  pub no-child : FormRead s i (m - 1) None → FormRead s a m None
   unfolding RowFormed
   no-child n t k f stop e =
       let x = w.forth k (record { tree = t; text = e; formed = f }) in
@@ -136,7 +136,7 @@ module _ (s : List ℕ) (a m i : ℕ) (w : Rest s a m i) where
     edge-text k x = c.only x.first (m - 1) (58 ∷ (x.word ++ row_then x.others 44 k)) x.formed.0 (colon-ends _) x.text
 
     -- and no length behind it
-    pub edgeless : j ≡ e → FormRead s a m Nowhere
+    pub edgeless : j ≡ e → FormRead s a m None
     unfolding RowFormed
     edgeless same t k f stop g =
         let x = w.forth k (record { tree = t; text = g; formed = f }) in
@@ -159,7 +159,7 @@ module _ (s : List ℕ) (a m i : ℕ) (w : Rest s a m i) where
       child-text : (l : List ℕ) → drop j s ≡ l → drop i s ≡ text_then c.tree (58 ∷ (edge.word ++ l))
       child-text l h = c.text ∙ ap (text_then c.tree) (edge.text ∙ ap (λ (x : List ℕ). 58 ∷ (edge.word ++ x)) h)
 
-      pub child-other : (get_or s j 0 ≡ 41 → ⊥) → (get_or s j 0 ≡ 44 → ⊥) → FormRead s a m Nowhere
+      pub child-other : (get_or s j 0 ≡ 41 → ⊥) → (get_or s j 0 ≡ 44 → ⊥) → FormRead s a m None
       unfolding row_then
       child-other p q t k f stop g = let x = w.forth k (record { tree = t; text = g; formed = f }) in go x.others (edge_same k x)
         where
@@ -209,7 +209,7 @@ module _ (s : List ℕ) where
   text-bare bare none x = x.formed.1
   text-bare bare (some t w r) x = bare (first-is s 0 40 _ (x.text ∙ row_first t w r 40 (59 ∷ [])))
 
-  pub text-formless : FormRead s 0 max_open Nowhere → TextRead s false
+  pub text-formless : FormRead s 0 max_open None → TextRead s false
   unfolding text_then
   text-formless n r x = n (node r) (59 ∷ []) x.formed semicolon_ends x.text
 

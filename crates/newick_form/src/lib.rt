@@ -11,44 +11,35 @@ use newick_words::MAX_TEXT;
 // The most brackets that may be open at once.
 pub const MAX_OPEN: usize = 62;
 
-// Where a vertex ends, or that none stands there.
-#[derive(Clone, Copy)]
-enum End {
-    Nowhere,
-    At(usize),
-}
-
-// Whether a vertex stands at a place where `room` more brackets may open, and where it ends.
-fn form(text: &[u8], at: usize, room: usize) -> End
+// Where the vertex at a place ends, where `room` more brackets may open; none where no vertex stands there.
+fn form(text: &[u8], at: usize, room: usize) -> Option<usize>
     requires { at ≤ length text.now }
     ensures { FormRead text.now at room result }
 {
     if digits::byte_at(text, at) != b'(' {
         let end = newick_words::name_end(text, at);
         if end == at {
-            return End::Nowhere;
+            return None;
         }
-        return End::At(end);
+        return Some(end);
     }
     if room == 0 {
-        return End::Nowhere;
+        return None;
     }
     let mut next = at + 1;
+    // The text says child by child whether one more comes.
     loop {
-        let child = form(text, next, room - 1);
-        let End::At(end) = child else {
-            return End::Nowhere;
-        };
+        let end = form(text, next, room - 1)?;
         let edge = newick_words::edge_end(text, end);
         if edge == end {
-            return End::Nowhere;
+            return None;
         }
         let byte = digits::byte_at(text, edge);
         if byte == b')' {
-            return End::At(edge + 1);
+            return Some(edge + 1);
         }
         if byte != b',' {
-            return End::Nowhere;
+            return None;
         }
         next = edge + 1;
     }
@@ -64,8 +55,7 @@ pub fn is_text(text: &[u8]) -> bool
     if digits::byte_at(text, 0) != b'(' {
         return false;
     }
-    let root = form(text, 0, MAX_OPEN);
-    let End::At(end) = root else {
+    let Some(end) = form(text, 0, MAX_OPEN) else {
         return false;
     };
     if digits::byte_at(text, end) != b';' {
@@ -79,15 +69,13 @@ pub fn count_is(text: &[u8], byte: u8, count: usize) -> bool
     ensures { result ≡ eqb (occurs byte text.now) count }
 {
     let mut left = count;
-    let mut k = 0;
-    while k < text.len() {
-        if text[k] == byte {
+    for next in text {
+        if *next == byte {
             if left == 0 {
                 return false;
             }
             left -= 1;
         }
-        k += 1;
     }
     left == 0
 }

@@ -5,8 +5,8 @@ use Prim.Native.Nat.{ℕ, ◌+◌, ◌≤◌, ◌<◌}
 use native.Mathlib.Omega.{arith}
 use lib.ListN.{length, take, drop, length-append, length-drop, take-append-drop}
 use lib.Seq.{length-take-le, drop-append-le}
-use Rattle.verdict.specs.Answer.{Answer, pass, fault, answer_of, refusal_of, number_of, ◌or_else◌}
-use Rattle.verdict.specs.declared.Verdict.TheVariants.{Accepted, Refused}
+use Rattle.verdict.specs.Answer.{Answer, pass, fault, reason_number, refusal_of, ◌or_else◌}
+use Rattle.std.specs.Prelude.{Ok, Err}
 use Rattle.verdict.specs.declared.Refusal.{Refusal}
 use Rattle.verdict.proofs.Answers.{not_pass}
 use Rattle.writing.specs.Text.{Wrote}
@@ -17,7 +17,6 @@ use Rattle.lines.proofs.Sizes.{refused-length}
 use Rattle.pages.specs.Texts.{ShownOn}
 use Rattle.pages.proofs.Texts.{whole_page}
 use Rattle.newick_text.specs.Tree.{max_text}
-use Rattle.newick_write.specs.declared.Written.{Written}
 use Rattle.newick_write.specs.Answers.{room_out, Told}
 use Rattle.sheet_names.specs.Labels.{named_tests}
 use Rattle.newick_sheet.specs.Named.{sheet_text_tests, named_text}
@@ -39,7 +38,7 @@ module _ (b : List ℕ) (k : ℕ) (h : k ≤ length b) where
   }
 
 -- ---- the print
-module _ (s b p : List ℕ) (r : Written) (big : newick_page ≤ length b) (a : Told (sheet_text_tests s (length (take max_text b))) (named_text s) (take max_text b) p r) (same : length p ≡ length (take max_text b)) where
+module _ (s b p : List ℕ) (big : newick_page ≤ length b) (same : length p ≡ length (take max_text b)) where
   enough : max_text ≤ length b
   enough = omega arith
 
@@ -48,39 +47,36 @@ module _ (s b p : List ℕ) (r : Written) (big : newick_page ≤ length b) (a : 
   always pass = ap (λ (n : ℕ). room_out n) (part_length b max_text enough)
   always (fault k q) = refl
 
-  answer-is : answer_of r.verdict ≡ named_tests s
-  answer-is = a.answer ∙ always (named_tests s)
-
   pub still-long : length (p ++ drop max_text b) ≡ length b
   still-long = length-append p (drop max_text b) ∙ omega (arith, same, part_length b max_text enough, length-drop max_text b)
 
-  module _ (q : Refusal) (e : r.verdict ≡ Refused q) where
+  module _ (q : Refusal) (a : Told (sheet_text_tests s (length (take max_text b))) (named_text s) (take max_text b) p (Err q)) where
     refusal : refusal_of q ≡ named_tests s
-    refusal = sym (ap answer_of e) ∙ answer-is
+    refusal = a.answer ∙ always (named_tests s)
 
     untouched : p ++ drop max_text b ≡ b
-    untouched = ap (λ (l : List ℕ). l ++ drop max_text b) (a.kept (λ z. not_pass q (sym (ap answer_of e) ∙ a.answer ∙ z))).0 ∙ take-append-drop max_text b
+    untouched = ap (λ (l : List ℕ). l ++ drop max_text b) a.kept ∙ take-append-drop max_text b
 
-    pub shows-refusal : (after : List ℕ) (next k : ℕ) → k ≡ number_of (Refused q) → Wrote (p ++ drop max_text b) after 0 (refused_line k q.place) next → ShownOn newick_page (newick_text s) b after next
+    pub shows-refusal : (after : List ℕ) (next k : ℕ) → k ≡ reason_number q.reason → Wrote (p ++ drop max_text b) after 0 (refused_line k q.place) next → ShownOn newick_page (newick_text s) b after next
     shows-refusal after next k f w =
         let text : refused_line k q.place ≡ newick_text s = ap (λ (x : ℕ). refused_line x q.place) f ∙ ap (λ (x : Answer). by_answer x (named_text s ++ end)) refusal in
         whole_page newick_page (newick_text s) b after next (omega (arith, ap length text, refused-length k q.place)) big
         (subst (λ (l : List ℕ). Wrote b after 0 l next) text (subst (λ (l : List ℕ). Wrote l after 0 (refused_line k q.place) next) untouched w))
 
-  module _ (e : r.verdict ≡ Accepted) where
+  module _ (last : ℕ) (a : Told (sheet_text_tests s (length (take max_text b))) (named_text s) (take max_text b) p (Ok last)) where
     passed : named_tests s ≡ pass
-    passed = sym answer-is ∙ ap answer_of e
+    passed = sym (a.answer ∙ always (named_tests s))
 
-    stands : Wrote b (p ++ drop max_text b) 0 (named_text s) r.length
-    stands = wrote-part b max_text enough p (named_text s) r.length same (a.written (sym a.answer ∙ ap answer_of e))
+    stands : Wrote b (p ++ drop max_text b) 0 (named_text s) last
+    stands = wrote-part b max_text enough p (named_text s) last same a.written
 
-    short : r.length ≤ max_text
-    short = omega (arith, wrote-within (a.written (sym a.answer ∙ ap answer_of e)), same, part_length b max_text enough)
+    short : last ≤ max_text
+    short = omega (arith, wrote-within a.written, same, part_length b max_text enough)
 
-    pub line-room : r.length < length (p ++ drop max_text b)
-    line-room = omega (arith, still-long, wrote-within (a.written (sym a.answer ∙ ap answer_of e)), same, part_length b max_text enough)
+    pub line-room : last < length (p ++ drop max_text b)
+    line-room = omega (arith, still-long, short)
 
-    pub shows-text : (after : List ℕ) (next : ℕ) → Wrote (p ++ drop max_text b) after r.length (10 ∷ []) next → ShownOn newick_page (newick_text s) b after next
+    pub shows-text : (after : List ℕ) (next : ℕ) → Wrote (p ++ drop max_text b) after last (10 ∷ []) next → ShownOn newick_page (newick_text s) b after next
     shows-text after next w =
         let text : named_text s ++ end ≡ newick_text s = ap (λ (x : Answer). by_answer x (named_text s ++ end)) (sym passed) in
         let all = wrote_then (omega (arith, stands.place, line-room, still-long)) stands w in

@@ -7,17 +7,9 @@ ghost use Rattle.pages.specs.Texts.{ShownOn};
 ghost use Rattle.newick_pages.specs.Texts.{newick_text, newick_page};
 
 use newick_words::MAX_TEXT;
-use verdict::Verdict;
 
 // The bytes of a page: the longest text, and a line end.
 pub const PAGE: usize = MAX_TEXT + 1;
-
-// A blank page.
-pub fn page() -> [u8; PAGE]
-    ensures { newick_page ≡ length result }
-{
-    [0; PAGE]
-}
 
 // The print of a sheet with names, at the front of a buffer of 65,537 bytes or more; a smaller one is left as it was. The result is how many
 // bytes the print has, 0 where the buffer is too small. The crate newick_pages_c exports it to C.
@@ -27,11 +19,8 @@ pub fn newick_print(s: &[u8], text: &mut [u8]) -> usize
     if text.len() < PAGE {
         return 0;
     }
-    let told = newick_sheet::write_sheet(s, &mut text[..MAX_TEXT]);
-    let answer = told.verdict;
-    if let Verdict::Refused(refusal) = answer {
-        let place = refusal.place;
-        return lines::refused_line(text, 0, verdict::number(Verdict::Refused(refusal)), place);
+    match newick_sheet::write_sheet(s, &mut text[..MAX_TEXT]) {
+        Ok(end) => writing::put(text, end, b'\n'),
+        Err(refusal) => lines::refused_line(text, 0, u32::from(refusal.reason), refusal.place),
     }
-    writing::put(text, told.length, b'\n')
 }

@@ -77,10 +77,7 @@ fn put_vertex(
     }
     let mut lead = b'(';
     let mut end = at;
-    let mut w = 0;
-    while w < v {
-        let child = w;
-        w += 1;
+    for child in 0..v {
         if parents[child] as usize == v {
             text[end] = lead;
             let below = put_vertex(parents, lengths, names, starts, n, child, text, end + 1);

@@ -1,13 +1,15 @@
 -- The contracts leave one answer and one content of each buffer for every names record and every text: two results that meet them are
 -- the same. A text of the form has one row, so it has one answer.
-use mathlib.Core.Path.{◌≡◌, sym, ◌∙◌, ap, ap₂}
+use mathlib.Core.Path.{◌≡◌, refl, sym, ◌∙◌, ap, ap₂}
 use mathlib.Core.List.{List}
 use Prim.Native.Nat.{ℕ}
 use lib.IntN.{ℤ}
 use Rattle.exact.proofs.Decide.{by_cases}
-use Rattle.verdict.specs.Answer.{Answer, number, answer_of}
-use Rattle.verdict.specs.declared.Verdict.{Verdict}
-use Rattle.verdict.proofs.Answers.{passes, same_answer}
+use Rattle.verdict.specs.Answer.{Answer, pass, number, answer_of}
+use Rattle.verdict.specs.Answer.{Verdict}
+use Rattle.std.specs.Prelude.{Result, Ok, Err}
+use Rattle.verdict.specs.declared.Refusal.{Refusal}
+use Rattle.verdict.proofs.Answers.{passes, not_pass, same_answer, same_refusal}
 use Rattle.names.specs.Record.{record_count}
 use Rattle.newick_text.specs.Tree.{Row}
 use Rattle.newick_text.specs.Tests.{row_tests}
@@ -30,23 +32,24 @@ one_answer names text rows a b (by_row h r x e) (by_form g m f) = absurd (m r x)
 one_answer names text rows a b (by_row h r x e) (by_row g q y f) = e ∙ ap rows (one-row text r q x y) ∙ sym f
 
 module _ (names text : List ℕ) where
-  pub one_survey : (v w : Sizes) → SizesAnswer names text v → SizesAnswer names text w → v ≡ w
-  one_survey v w a b =
-      let rows = row_tests (find_in names) (record_count names) in
-      let e : answer_of v.verdict ≡ answer_of w.verdict = one_answer names text rows (answer_of v.verdict) (answer_of w.verdict) a.answer b.answer in
-      let d = same_answer v.verdict w.verdict e in
-      by_cases (passes (answer_of v.verdict))
-      (λ ok. let f = passed-row names text rows (answer_of v.verdict) a.answer ok in
-      let i = a.held ok f.row f.text in
-      let j = b.held (sym e ∙ ok) f.row f.text in
-      same v w d (i.0 ∙ sym j.0) (i.1 ∙ sym j.1))
-      (λ no. let i = a.none no in let j = b.none (λ z. no (e ∙ z)) in same v w d (i.0 ∙ sym j.0) (i.1 ∙ sym j.1))
+  pub one_survey : (v w : Result Sizes Refusal) → SizesAnswer names text v → SizesAnswer names text w → v ≡ w
+  one_survey v w a b = go v w a b (one_answer names text rows (answer_of v) (answer_of w) a.answer b.answer)
     where
-      sized : Verdict → ℕ → ℕ → Sizes
-      sized a n k = record { verdict = a; strains = n; edges = k }
+      rows : Row → Answer
+      rows = row_tests (find_in names) (record_count names)
 
-      same : (v w : Sizes) → v.verdict ≡ w.verdict → v.strains ≡ w.strains → v.edges ≡ w.edges → v ≡ w
-      same v w e f g = ap (λ (a : Verdict). sized a v.strains v.edges) e ∙ ap₂ (λ (n k : ℕ). sized w.verdict n k) f g
+      sized : ℕ → ℕ → Sizes
+      sized n k = record { strains = n; edges = k }
+
+      go : (v w : Result Sizes Refusal) → SizesAnswer names text v → SizesAnswer names text w → answer_of v ≡ answer_of w → v ≡ w
+      go (Ok x) (Ok y) a b e =
+          let f = passed-row names text rows pass a.answer refl in
+          let i = a.held f.row f.text in
+          let j = b.held f.row f.text in
+          ap Ok (ap₂ sized (i.0 ∙ sym j.0) (i.1 ∙ sym j.1))
+      go (Ok x) (Err g) a b e = absurd (not_pass g (sym e))
+      go (Err f) (Ok y) a b e = absurd (not_pass f e)
+      go (Err f) (Err g) a b e = ap Err (same_refusal f g e)
 
   module _ (p q q' : List ℕ) (x y y' : List ℤ) where
     one_reading : (a b : Answer) → Reads names text p q x y a → Reads names text p q' x y' b → (a ≡ b) × (q ≡ q') × (y ≡ y')

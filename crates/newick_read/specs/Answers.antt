@@ -1,5 +1,6 @@
 -- What `survey`, `read` and `newick_read` hand back, for every names record and every text beside it (RULES, Trees in text).
-use Rattle.std.specs.Prelude.{◌≡◌, List, ℕ, ℤ, length}
+use Rattle.std.specs.Prelude.{◌≡◌, List, ℕ, ℤ, length, Result, IfOk}
+use Rattle.verdict.specs.declared.Refusal.{Refusal}
 use Rattle.verdict.specs.Answer.{Answer, pass, number, answer_of, test, ◌or_else◌}
 use Rattle.names.specs.Record.{record_count}
 use Rattle.newick_text.specs.Tree.{Row, Text}
@@ -7,11 +8,10 @@ use Rattle.newick_text.specs.Tests.{edges_in, parents_in, numerators_in, row_tes
 use Rattle.newick_survey.specs.Text.{find_in, Answered}
 use Rattle.newick_read.specs.declared.Sizes.{Sizes}
 
--- ---- how many strains and edges there are; none where the answer is a refusal
-pub record SizesAnswer (names text : List ℕ) (v : Sizes) : Type 0 where
-  pub answer : Answered names text (row_tests (find_in names) (record_count names)) (answer_of v.verdict)
-  pub held : answer_of v.verdict ≡ pass → (r : Row) → Text text r → (v.strains ≡ record_count names) × (v.edges ≡ edges_in (find_in names) (record_count names) r)
-  pub none : (answer_of v.verdict ≡ pass → ⊥) → (v.strains ≡ 0) × (v.edges ≡ 0)
+-- ---- how many strains and edges there are
+pub record SizesAnswer (names text : List ℕ) (v : Result Sizes Refusal) : Type 0 where
+  pub answer : Answered names text (row_tests (find_in names) (record_count names)) (answer_of v)
+  pub held : IfOk v (λ x. (r : Row) → Text text r → (x.strains ≡ record_count names) × (x.edges ≡ edges_in (find_in names) (record_count names) r))
 
 -- ---- the tables, in buffers that had p and x and have q and y
 -- the tests of a row, with 15 for room for other than its edges

@@ -12,12 +12,11 @@ use lib.Seq.{length-take-le, get_or-take}
 use Rattle.exact.specs.Nearest.{nearest}
 use Rattle.exact.specs.Table.{table, entry_of}
 use Rattle.exact.proofs.Fill.{length-table, get_or_table, table_is}
-use Rattle.verdict.specs.Answer.{pass, answer_of, refusal_of, ◌or_else◌}
+use Rattle.verdict.specs.Answer.{Answer, pass, refusal_of, ◌or_else◌}
 use Rattle.verdict.specs.declared.Rule.TheVariants.{Plain}
-use Rattle.verdict.specs.declared.Verdict.{Verdict}
-use Rattle.verdict.specs.declared.Verdict.TheVariants.{Accepted, Refused}
+use Rattle.std.specs.Prelude.{Ok, Err}
 use Rattle.verdict.specs.declared.Refusal.{Refusal}
-use Rattle.verdict.proofs.Answers.{not_pass, or_else_pass}
+use Rattle.verdict.proofs.Answers.{or_else_pass}
 use Rattle.tree_theory.specs.Limits.{max_edges}
 use Rattle.tree_theory.proofs.Checked.{→allowed}
 use Rattle.lengths.specs.Proper.{Proper}
@@ -30,38 +29,40 @@ use Rattle.reading.specs.declared.Sheet.{Sheet}
 use Rattle.reading.specs.Holds.{strains_of, parents_of, denominator_of, numerators_of}
 use Rattle.reading.specs.Reads.{SheetAnswer}
 use Rattle.reading.specs.Tests.{held_tests}
-use Rattle.reading.proofs.Parts.{Parts, Lengths, accepted, of-lengths}
+use Rattle.reading.proofs.Parts.{Parts, Lengths, accepted, read-parts, read-lengths, of-lengths}
 use Rattle.reading.proofs.Whole.{held-asked, held-refused}
 use Rattle.newick_sheet.specs.declared.Fitting.{Fitting}
 use Rattle.newick_sheet.specs.Named.{thousandths_of, FittingAnswer}
 
--- a refusal
-pub answer-refused : (s : List ℕ) (q : Refusal) (x : Fitting) → x.verdict ≡ Refused q → refusal_of q ≡ held_tests Plain s → FittingAnswer s x
-answer-refused s q x e f = record { answer = ap answer_of e ∙ f; fitted = λ p. absurd (not_pass q (f ∙ p)) }
+module _ (s : List ℕ) (form : form_tests 4 s ≡ pass) where
+  pub reader_refused : (q : Refusal) → SheetAnswer 4 s (Err q) → refusal_of q ≡ held_tests Plain s
+  reader_refused q a = held-refused 4 (omega arith) Plain s form q a.answer
 
-module _ (s : List ℕ) (form : form_tests 4 s ≡ pass) (r : Sheet) (a : SheetAnswer 4 s r) where
-  pub reader_refused : (q : Refusal) (x : Fitting) → r.verdict ≡ Refused q → x.verdict ≡ Refused q → FittingAnswer s x
-  reader_refused q x e f = answer-refused s q x f (held-refused 4 (omega arith) Plain s form r q a e)
+  module _ (r : Sheet) (a : SheetAnswer 4 s (Ok r)) where
+    h : Parts s r
+    h = read-parts 4 s r (omega arith) a
 
-  module _ (e : r.verdict ≡ Accepted) (h : Parts s r) (l : Lengths s r) (v : Verdict)
-      (j : answer_of v ≡ proposal_tests Plain r.strains (take r.pairs r.distances) (take (r.end - r.parents) (drop r.parents s)) r.denominator (take r.edges r.numerators)) where
-    told : answer_of v ≡ held_tests Plain s
-    told = of-lengths h l (λ n ds ps d ns. answer_of v ≡ proposal_tests Plain n ds ps d ns) j ∙ sym (held-asked 4 (omega arith) Plain s form (accepted 4 s r a e))
+    l : Lengths s r
+    l = read-lengths 4 s r (omega arith) a
 
-    pub judge_refused : (q : Refusal) (x : Fitting) → v ≡ Refused q → x.verdict ≡ Refused q → FittingAnswer s x
-    judge_refused q x f g = answer-refused s q x g (sym (ap answer_of f) ∙ told)
+    abbrev asked : Answer
+    asked = proposal_tests Plain r.strains (take r.pairs r.distances) (take (r.end - r.parents) (drop r.parents s)) r.denominator (take r.edges r.numerators)
 
-    module _ (f : v ≡ Accepted) where
+    -- what is asked of the parts is what the sheet is asked
+    pub told : (v : Answer) → v ≡ asked → v ≡ held_tests Plain s
+    told v j = of-lengths h l (λ n ds ps d ns. v ≡ proposal_tests Plain n ds ps d ns) j ∙ sym (held-asked 4 (omega arith) Plain s form (accepted 4 s r a))
+
+    module _ (j : pass ≡ asked) where
       pub proper : Proper (length (take (r.end - r.parents) (drop r.parents s))) r.denominator (take r.edges r.numerators)
       proper =
           let n = r.strains in
           let ds = take r.pairs r.distances in
           let ps = take (r.end - r.parents) (drop r.parents s) in
           let ns = take r.edges r.numerators in
-          →proper (length ps) r.denominator ns (or_else_pass (lengths_tests (length ps) r.denominator ns) (sign_tests Plain ns or_else sums_tests Plain n ds ps r.denominator ns) (sym j ∙ ap answer_of f)).0
+          →proper (length ps) r.denominator ns (or_else_pass (lengths_tests (length ps) r.denominator ns) (sign_tests Plain ns or_else sums_tests Plain n ds ps r.denominator ns) (sym j)).0
 
       module _ (x : Fitting) (lengths : x.lengths ≡ table max_edges (λ v. cond (ltb v r.edges) (nearest r.denominator (entry_of (take r.edges r.numerators) v)) (pos 0)))
-          (b : x.verdict ≡ Accepted) (c : x.strains ≡ r.strains) (d : x.parents ≡ r.parents) (g : x.end ≡ r.end) (i : x.edges ≡ r.edges) where
+          (c : x.strains ≡ r.strains) (d : x.parents ≡ r.parents) (g : x.end ≡ r.end) (i : x.edges ≡ r.edges) where
         enough : x.edges ≤ length x.lengths
         enough = omega (arith, l.few, ap length lengths ∙ length-table max_edges _)
 
@@ -75,10 +76,10 @@ module _ (s : List ℕ) (form : form_tests 4 s ≡ pass) (r : Sheet) (a : SheetA
             ∙ get_or_table max_edges (λ v. cond (ltb v r.edges) (nearest r.denominator (entry_of (take r.edges r.numerators) v)) (pos 0)) (pos 0) k (omega (arith, l.few))
             ∙ simp (lt-ltb k r.edges low, l.denominator, l.numerators))
 
-        pub judge_passed : FittingAnswer s x
+        pub judge_passed : FittingAnswer s (Ok x)
         judge_passed = record {
-          answer = ap answer_of b ∙ sym (ap answer_of f) ∙ told;
-          fitted = λ _. record {
+          answer = told pass j;
+          fitted = record {
             allowed = →allowed (strains_of s) (parents_of s) h.shaped.tree;
             strains = c ∙ h.strains;
             starts = omega (arith, h.starts);

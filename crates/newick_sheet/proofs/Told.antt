@@ -4,50 +4,39 @@ use mathlib.Core.Bool.{Bool, not}
 use mathlib.Core.List.{List}
 use Prim.Native.Nat.{ℕ, ◌-◌}
 use native.Mathlib.Omega.{arith}
-use borrow.Author.Tests.{eq-eqb, ne_eqb}
+use borrow.Author.Tests.{eq-eqb}
 use lib.ListN.{length, take, drop}
 use Rattle.exact.proofs.Fill.{length-table}
-use Rattle.verdict.specs.Answer.{Answer, pass, answer_of, refusal_of, test, ◌or_else◌}
-use Rattle.verdict.specs.declared.Reason.TheVariants.{Buffer}
-use Rattle.verdict.specs.declared.Place.TheVariants.{Nowhere}
+use Rattle.verdict.specs.Answer.{Answer, pass, refusal_of, test, ◌or_else◌}
 use Rattle.verdict.specs.declared.Rule.TheVariants.{Plain}
-use Rattle.verdict.specs.declared.Verdict.TheVariants.{Accepted, Refused}
+use Rattle.std.specs.Prelude.{Ok, Err}
 use Rattle.verdict.specs.declared.Refusal.{Refusal}
-use Rattle.verdict.proofs.Answers.{not_pass}
 use Rattle.fit_theory.specs.Quantities.{rounded_of}
 use Rattle.writing.specs.Text.{Wrote}
 use Rattle.records.specs.Form.{form_tests}
 use Rattle.reading.specs.Holds.{parents_of, denominator_of, numerators_of}
 use Rattle.reading.specs.Tests.{held_tests}
-use Rattle.names.specs.declared.Named.{Named}
 use Rattle.newick_text.specs.Tree.{max_text}
-use Rattle.newick_write.specs.declared.Written.{Written}
 use Rattle.newick_write.specs.Answers.{tree_text, Tellable, room_out, Told}
-use Rattle.newick_write.proofs.Telling.{told-passed}
 use Rattle.newick_sheet.specs.declared.Fitting.{Fitting}
 use Rattle.sheet_names.specs.Labels.{label_tests, Labelled}
-use Rattle.newick_sheet.specs.Named.{sheet_text_tests, named_text, Fitted, FittingAnswer}
+use Rattle.newick_sheet.specs.Named.{sheet_text_tests, named_text, FittingAnswer}
 use Rattle.sheet_names.proofs.Labels.{label_form, label_within}
 
-module _ (s before : List ℕ) (x : Named) (a : Labelled s x) where
+module _ (s before : List ℕ) where
   abbrev answer : Answer
   answer = sheet_text_tests s (length before)
 
   -- a refusal, as it is handed back
-  refused-told : (q : Refusal) (r : Written) → (r.verdict ≡ Refused q) × (r.length ≡ 0) → refusal_of q ≡ answer → Told answer (named_text s) before before r
-  refused-told q r e f = record {
-    answer = ap answer_of e.0 ∙ f;
-    written = λ p. absurd (not_pass q (f ∙ p));
-    kept = λ _. (refl, e.1);
-  }
+  pub refused-told : (q : Refusal) → refusal_of q ≡ answer → Told answer (named_text s) before before (Err q)
+  refused-told q f = record { answer = f; written = tt; kept = refl }
 
-  pub label_refused : (q : Refusal) (r : Written) → x.verdict ≡ Refused q → (r.verdict ≡ Refused q) × (r.length ≡ 0) → Told answer (named_text s) before before r
-  label_refused q r e f =
-      refused-told q r f (ap (λ (b : Answer). (b or_else held_tests Plain s) or_else room_out (length before)) (sym (ap answer_of e) ∙ a.answer))
+  pub label_refused : (q : Refusal) → Labelled s (Err q) → refusal_of q ≡ answer
+  label_refused q a = ap (λ (b : Answer). (b or_else held_tests Plain s) or_else room_out (length before)) a.answer
 
-  module _ (e : x.verdict ≡ Accepted) where
+  module _ {from : ℕ} (a : Labelled s (Ok from)) where
     passed : label_tests s ≡ pass
-    passed = sym a.answer ∙ ap answer_of e
+    passed = sym a.answer
 
     pub form-there : form_tests 4 s ≡ pass
     form-there = (label_form s passed).0
@@ -55,34 +44,28 @@ module _ (s before : List ℕ) (x : Named) (a : Labelled s x) where
     behind : answer ≡ (held_tests Plain s or_else room_out (length before))
     behind = ap (λ (b : Answer). (b or_else held_tests Plain s) or_else room_out (length before)) passed
 
-    module _ (y : Fitting) (f : FittingAnswer s y) where
-      pub fit_refused : (q : Refusal) (r : Written) → y.verdict ≡ Refused q → (r.verdict ≡ Refused q) × (r.length ≡ 0) → Told answer (named_text s) before before r
-      fit_refused q r g h = refused-told q r h (ap (λ (b : Answer). b or_else room_out (length before)) (sym (ap answer_of g) ∙ f.answer) ∙ sym behind)
+    pub fit_refused : (q : Refusal) → FittingAnswer s (Err q) → refusal_of q ≡ answer
+    fit_refused q f = ap (λ (b : Answer). b or_else room_out (length before)) f.answer ∙ sym behind
 
-      module _ (g : y.verdict ≡ Accepted) where
-        held : held_tests Plain s ≡ pass
-        held = sym f.answer ∙ ap answer_of g
+    module _ {y : Fitting} (f : FittingAnswer s (Ok y)) where
+      -- what is asked of the buffer is what is left to ask
+      pub room_told : (v : Answer) → v ≡ room_out (length before) → v ≡ answer
+      room_told v e = e ∙ sym (behind ∙ ap (λ (b : Answer). b or_else room_out (length before)) (sym f.answer))
 
-        pub fitted : Fitted s y
-        fitted = f.fitted held
+      module _ (room : length before ≡ max_text) where
+        pub tell : Tellable s from y.strains (take (y.end - y.parents) (drop y.parents s)) (take y.edges y.lengths) before
+        tell = rw (a.from, f.fitted.strains, f.fitted.parents, f.fitted.lengths) (record {
+          within = label_within s passed;
+          named = (label_form s passed).1;
+          allowed = f.fitted.allowed;
+          edges = omega (arith, length-table (length (parents_of s)) (rounded_of (denominator_of s) (numerators_of s)));
+          room = room;
+        })
 
-        last : answer ≡ room_out (length before)
-        last = behind ∙ ap (λ (b : Answer). b or_else room_out (length before)) held
-
-        pub room-refused : (r : Written) → (r.verdict ≡ Refused (record { reason = Buffer; place = Nowhere })) × (r.length ≡ 0) → (length before ≡ max_text → ⊥) → Told answer (named_text s) before before r
-        room-refused r h n = refused-told (record { reason = Buffer; place = Nowhere }) r h (ap (λ (b : Bool). test 15 (not b)) (sym (ne_eqb (length before) max_text n)) ∙ sym last)
-
-        module _ (room : length before ≡ max_text) where
-          pub tell : Tellable s x.count y.strains (take (y.end - y.parents) (drop y.parents s)) (take y.edges y.lengths) before
-          tell = rw (a.from passed, fitted.strains, fitted.parents, fitted.lengths) (record {
-            within = label_within s passed;
-            named = (label_form s passed).1;
-            allowed = fitted.allowed;
-            edges = omega (arith, length-table (length (parents_of s)) (rounded_of (denominator_of s) (numerators_of s)));
-            room = room;
-          })
-
-          pub told : (after : List ℕ) (next : ℕ) → Wrote before after 0 (tree_text s x.count y.strains (take (y.end - y.parents) (drop y.parents s)) (take y.edges y.lengths)) next
-              → Told answer (named_text s) before after (record { verdict = Accepted; length = next })
-          told after next w =
-              told-passed answer (named_text s) before (last ∙ ap (λ (b : Bool). test 15 (not b)) (eq-eqb (length before) max_text room)) (rw (a.from passed, fitted.strains, fitted.parents, fitted.lengths) at w)
+        pub told : (after : List ℕ) (next : ℕ) → Wrote before after 0 (tree_text s from y.strains (take (y.end - y.parents) (drop y.parents s)) (take y.edges y.lengths)) next
+            → Told answer (named_text s) before after (Ok next)
+        told after next w = record {
+          answer = room_told pass (sym (ap (λ (b : Bool). test 15 (not b)) (eq-eqb (length before) max_text room)));
+          written = rw (a.from, f.fitted.strains, f.fitted.parents, f.fitted.lengths) at w;
+          kept = tt;
+        }

@@ -1,7 +1,8 @@
 -- A sheet with names (RULES, The sheet with names): its answer, and the text of its fitted tree.
-use Rattle.std.specs.Prelude.{◌≡◌, List, ℕ, ◌-◌, ◌≤◌, ℤ, length, take, drop}
+use Rattle.std.specs.Prelude.{◌≡◌, List, ℕ, ◌-◌, ◌≤◌, ℤ, length, take, drop, Result, IfOk}
 use Rattle.exact.specs.Table.{table}
 use Rattle.verdict.specs.Answer.{Answer, pass, answer_of, ◌or_else◌}
+use Rattle.verdict.specs.declared.Refusal.{Refusal}
 use Rattle.verdict.specs.declared.Rule.TheVariants.{Plain}
 use Rattle.tree_theory.specs.Tests.{tree_tests}
 use Rattle.fit_theory.specs.Quantities.{rounded_of}
@@ -35,6 +36,6 @@ pub record Fitted (s : List ℕ) (r : Fitting) : Type 0 where
   pub size : r.edges ≡ length (take r.edges r.lengths)
   pub lengths : take r.edges r.lengths ≡ thousandths_of s
 
-pub record FittingAnswer (s : List ℕ) (r : Fitting) : Type 0 where
-  pub answer : answer_of r.verdict ≡ held_tests Plain s
-  pub fitted : held_tests Plain s ≡ pass → Fitted s r
+pub record FittingAnswer (s : List ℕ) (r : Result Fitting Refusal) : Type 0 where
+  pub answer : answer_of r ≡ held_tests Plain s
+  pub fitted : IfOk r (λ x. Fitted s x)

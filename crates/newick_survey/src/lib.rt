@@ -31,22 +31,24 @@ fn strains_out(n: usize) -> bool
     n > Matrix::MAX_STRAINS
 }
 
-// How many edges a text's tree has, and its parents and numerators, each in a table for as many edges as a tree may have.
+// What a text shows: how many strains its tree has and how many edges, and its parents and numerators, each in a table for as many edges
+// as a tree may have.
 #[derive(Clone, Copy)]
-pub struct Tables {
+pub struct Survey {
+    pub strains: usize,
     pub edges: usize,
     pub parents: [u8; Tree::MAX_EDGES],
     pub numerators: [i64; Tree::MAX_EDGES],
 }
 
 // The tables of a text of the form, where the root's number is how many edges there are and the `n` names of a record are known to stand in it.
-fn fill_tables(names: &[u8], n: usize, text: &[u8]) -> Tables
+fn fill_tables(names: &[u8], n: usize, text: &[u8]) -> Survey
     requires n_le_max_strains { (n ≤ max_strains) × (name_start names.now head_size n ≤ length names.now) }
     requires found { Found text.now }
     ensures { (r : Row) → Text text.now r → Entered (place_of names.now head_size n) n r result }
 {
-    let mut parents = tree::no_parents();
-    let mut numerators = tree::edge_zeros();
+    let mut parents: [u8; Tree::MAX_EDGES] = arrays::filled(0);
+    let mut numerators: [i64; Tree::MAX_EDGES] = arrays::filled(0);
     let firsts = name_keys::first_strains(names, Layout::HEAD, n);
     let starts = names::name_starts(names, Layout::HEAD, n);
     let root = newick_fill::children(
@@ -60,7 +62,8 @@ fn fill_tables(names: &[u8], n: usize, text: &[u8]) -> Tables
         &mut parents,
         &mut numerators,
     );
-    Tables {
+    Survey {
+        strains: n,
         edges: root.number,
         parents,
         numerators,
@@ -72,104 +75,60 @@ fn unused(parents: &[u8], n: usize) -> bool
     requires { n ≤ length parents.now }
     ensures { result ≡ some n (λ i. eqb (get_or parents.now i 0) 0) }
 {
-    let mut i = 0;
-    while i < n {
+    for i in 0..n {
         if parents[i] == 0 {
             return true;
         }
-        i += 1;
     }
     false
 }
 
 // 8, 10, 13: the tree and the lengths as they are asked anywhere.
-fn judged(n: usize, found: Tables) -> Verdict
-    requires { (n ≤ max_strains) × (length found.parents ≡ max_edges) × (length found.numerators ≡ max_edges) }
-    ensures { answer_of result ≡ table_tests n found.edges found.parents found.numerators }
+fn judged(n: usize, found: &Survey) -> Verdict
+    requires { (n ≤ max_strains) × (length found.now.parents ≡ max_edges) × (length found.now.numerators ≡ max_edges) }
+    ensures { answer_of result ≡ table_tests n found.now.edges found.now.parents found.now.numerators }
 {
     let edges = found.edges;
-    if edges > Tree::MAX_EDGES {
-        return Verdict::Refused(Refusal {
-            reason: Reason::Vertices,
-            place: Place::Nowhere,
-        });
-    }
-    let parents = found.parents;
-    let numerators = found.numerators;
-    let of_tree = tree::check_tree(n as u32, &parents[..edges]);
-    let of_lengths = lengths::check_lengths(edges, THOUSAND, &numerators[..edges]);
-    verdict::or_else(of_tree, of_lengths)
+    refusing::test(Reason::Vertices, edges > Tree::MAX_EDGES)?;
+    tree::check_tree(n as u32, &found.parents[..edges])?;
+    lengths::check_lengths(edges, THOUSAND, &found.numerators[..edges])
 }
 
-// What a text shows: the answer, and where it passes how many strains and edges there are, and the tables at the front of their room.
-#[derive(Clone, Copy)]
-pub struct Survey {
-    pub verdict: Verdict,
-    pub strains: usize,
-    pub edges: usize,
-    pub parents: [u8; Tree::MAX_EDGES],
-    pub numerators: [i64; Tree::MAX_EDGES],
-}
+// The refusals of a text that is not of the form, and of one that does not name each strain once.
+const NOT_OF_THE_FORM: Refusal = Refusal {
+    reason: Reason::Newick,
+    place: Place::Nowhere,
+};
 
-// A text that is refused.
-fn refused(refusal: Refusal) -> Survey
-    ensures { result.verdict ≡ Verdict.Refused refusal }
-{
-    Survey {
-        verdict: Verdict::Refused(refusal),
-        strains: 0,
-        edges: 0,
-        parents: tree::no_parents(),
-        numerators: tree::edge_zeros(),
-    }
-}
+const OTHER_NAMES: Refusal = Refusal {
+    reason: Reason::Names,
+    place: Place::Nowhere,
+};
 
 // 28, 29, 8, 10, 13, the first that applies to a text beside the `n` names of a record.
-fn of_text(names: &[u8], n: usize, text: &[u8]) -> Survey
+fn of_text(names: &[u8], n: usize, text: &[u8]) -> Result<Survey, Refusal>
     requires { (strains_out n ≡ false) × (name_start names.now head_size n ≤ length names.now) }
     ensures { TextSurvey (place_of names.now head_size n) n text.now result }
 {
     if !newick_form::is_text(text) {
-        return refused(Refusal {
-            reason: Reason::Newick,
-            place: Place::Nowhere,
-        });
+        return Err(NOT_OF_THE_FORM);
     }
     if !newick_form::count_is(text, b',', n - 1) {
-        return refused(Refusal {
-            reason: Reason::Names,
-            place: Place::Nowhere,
-        });
+        return Err(OTHER_NAMES);
     }
     let found = fill_tables(names, n, text);
-    let parents = found.parents;
-    let numerators = found.numerators;
-    if unused(&parents, n) {
-        return refused(Refusal {
-            reason: Reason::Names,
-            place: Place::Nowhere,
-        });
+    if unused(&found.parents, n) {
+        return Err(OTHER_NAMES);
     }
-    Survey {
-        verdict: judged(n, found),
-        strains: n,
-        edges: found.edges,
-        parents,
-        numerators,
-    }
+    judged(n, &found)?;
+    Ok(found)
 }
 
-// 2 to 5 and 28 for the names, 6, then the text.
-pub fn survey_text(names: &[u8], text: &[u8]) -> Survey
+// What a text beside a names record shows, or the refusal: 2 to 5 and 28 for the names, 6, then the text.
+pub fn survey_text(names: &[u8], text: &[u8]) -> Result<Survey, Refusal>
     ensures { Surveyed names.now text.now result }
 {
-    let named = names::check_names(names);
-    let n = named.count;
-    let of_names = named.verdict;
-    let of_strains = refusing::test(Reason::Strains, strains_out(n));
-    let head = verdict::or_else(of_names, of_strains);
-    if let Verdict::Refused(refusal) = head {
-        return refused(refusal);
-    }
+    let n = names::check_names(names)?;
+    refusing::test(Reason::Strains, strains_out(n))?;
     of_text(names, n, text)
 }

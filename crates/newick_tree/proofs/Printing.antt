@@ -8,9 +8,9 @@ use lib.Dec.{ltb}
 use lib.IntN.{ℤ, pos}
 use lib.ListN.{length, take, drop, length-drop}
 use lib.Seq.{take_all}
-use Rattle.verdict.specs.Answer.{pass, answer_of, number_of, test}
-use Rattle.verdict.specs.declared.Verdict.{Verdict}
-use Rattle.verdict.specs.declared.Verdict.TheVariants.{Accepted, Refused}
+use Rattle.verdict.specs.Answer.{pass, reason_number, test}
+use Rattle.verdict.specs.Answer.{Verdict}
+use Rattle.std.specs.Prelude.{Result, Ok, Err, IfOk}
 use Rattle.verdict.specs.declared.Refusal.{Refusal}
 use Rattle.verdict.specs.declared.Place.TheVariants.{Nowhere}
 use Rattle.verdict.proofs.Answers.{refuses, or_else_pass, test-pass, or_none}
@@ -40,33 +40,27 @@ module _ (s : List ℕ) (n : ℕ) (h : head_size ≤ length s) (e : n ≡ number
   end-there l = simp (le-ltb (length s) head_size h, le-ltb (length s) (end_at s 0) (omega (arith, e))) (omega (arith, e))
 
 -- ---- what passes has few strains and few edges
-module _ (names text : List ℕ) (v : Survey) (a : Surveyed names text v) (p : answer_of v.verdict ≡ pass) where
+module _ (names text : List ℕ) where
   few-strains : head_tests names ≡ pass → record_count names ≤ max_strains
   few-strains h =
       let out = test-pass 6 (strains_out (record_count names)) (or_else_pass (names_tests names) (test 6 (strains_out (record_count names))) h).1 in
       ltb-false max_strains (record_count names) (or_none (ltb (record_count names) min_strains) (ltb max_strains (record_count names)) out).1
 
-  pub few : (v.strains ≤ max_strains) × (v.edges ≤ max_edges)
-  few = go a.answer
+  pub few : (v : Result Survey Refusal) → Surveyed names text v → IfOk v (λ x. (x.strains ≤ max_strains) × (x.edges ≤ max_edges))
+  few (Err q) a = tt
+  few (Ok v) a = go a.answer
     where
-      go : Answered names text (row_tests (find_in names) (record_count names)) (answer_of v.verdict) → (v.strains ≤ max_strains) × (v.edges ≤ max_edges)
-      go (by_names n e) = absurd (n (sym e ∙ p))
-      go (by_form h n e) = absurd (refuses 28 Nowhere (sym e ∙ p))
-      go (by_row h r t e) = let held = a.held p r t in (omega (arith, held.strains, few-strains h), held.few)
+      go : Answered names text (row_tests (find_in names) (record_count names)) pass → (v.strains ≤ max_strains) × (v.edges ≤ max_edges)
+      go (by_names n e) = absurd (n (sym e))
+      go (by_form h n e) = absurd (refuses 28 Nowhere (sym e))
+      go (by_row h r t e) = let held = a.held r t in (omega (arith, held.strains, few-strains h), held.few)
 
 -- ---- the print
 pub first-end : (N K m : ℕ) (b c : List ℕ) → Wrote b c 0 (line tree_word (pos N ∷ pos K ∷ [])) m → m ≤ widest
 first-end N K m b c w = omega (arith, w.place, line-length tree_word (pos N ∷ pos K ∷ []))
 
-pub shows-refusal : (v : Survey) (b c : List ℕ) (m k : ℕ) (q : Refusal) → v.verdict ≡ Refused q → k ≡ number_of (Refused q) → Wrote b c 0 (refused_line k q.place) m → Wrote b c 0 (survey_text v) m
-shows-refusal v b c m k q e f w =
-    let text : refused_line k q.place ≡ survey_text v = ap (λ (x : ℕ). refused_line x q.place) f ∙ ap (λ (x : Verdict). by_answer (answer_of x) (tree_lines v.strains v.edges v.parents v.numerators)) (sym e) in
-    subst (λ (l : List ℕ). Wrote b c 0 l m) text w
-
-pub shows-tree : (v : Survey) (b c : List ℕ) (m : ℕ) → v.verdict ≡ Accepted → Wrote b c 0 (tree_lines v.strains v.edges v.parents v.numerators) m → Wrote b c 0 (survey_text v) m
-shows-tree v b c m e w =
-    let text : tree_lines v.strains v.edges v.parents v.numerators ≡ survey_text v = ap (λ (x : Verdict). by_answer (answer_of x) (tree_lines v.strains v.edges v.parents v.numerators)) (sym e) in
-    subst (λ (l : List ℕ). Wrote b c 0 l m) text w
+pub shows-refusal : (b c : List ℕ) (m k : ℕ) (q : Refusal) → k ≡ reason_number q.reason → Wrote b c 0 (refused_line k q.place) m → Wrote b c 0 (survey_text (Err q)) m
+shows-refusal b c m k q f w = subst (λ (x : ℕ). Wrote b c 0 (refused_line x q.place) m) f w
 
 pub lines_then : (N K : ℕ) (ps : List ℕ) (ms : List ℤ) (b c d : List ℕ) (m k : ℕ) → widest ≤ length b → Wrote b c 0 (line tree_word (pos N ∷ pos K ∷ [])) m → Wrote c d m (edge_lines K (row_of ps ms)) k
     → Wrote b d 0 (tree_lines N K ps ms) k
@@ -74,7 +68,7 @@ unfolding tree_lines
 lines_then N K ps ms b c d m k room p q = wrote_then (omega (arith, line-length tree_word (pos N ∷ pos K ∷ []))) p q
 
 -- the input parted where the record ends
-pub parted : (s : List ℕ) (e : ℕ) (v : Survey) → e ≡ record_end s → Surveyed (take e s) (take (length s - e) (drop e s)) v → Surveyed (names_part s) (text_part s) v
+pub parted : (s : List ℕ) (e : ℕ) (v : Result Survey Refusal) → e ≡ record_end s → Surveyed (take e s) (take (length s - e) (drop e s)) v → Surveyed (names_part s) (text_part s) v
 parted s e v f a =
     let rest : take (length s - e) (drop e s) ≡ drop e s = take_all (length s - e) (drop e s) (omega (arith, length-drop e s)) in
     subst (λ (n : ℕ). Surveyed (take n s) (drop n s) v) f (subst (λ (l : List ℕ). Surveyed (take e s) l v) rest a)

@@ -1,14 +1,14 @@
 -- What the program prints of a tree in text: tree N K, and for each edge a line with its parent and its thousandths; or the line of the
 -- refusal. Its input is a names record with the text right behind it.
-use Rattle.std.specs.Prelude.{◌≡◌, cond, List, [], ◌∷◌, ◌++◌, ℕ, ◌+◌, ◌*◌, ltb, ℤ, pos, length, get_or, take, drop}
+use Rattle.std.specs.Prelude.{◌≡◌, cond, List, [], ◌∷◌, ◌++◌, ℕ, ◌+◌, ◌*◌, ltb, ℤ, pos, length, get_or, take, drop, Result, Ok, Err}
 use Rattle.exact.specs.Table.{entry_of}
-use Rattle.verdict.specs.Answer.{answer_of}
+use Rattle.verdict.specs.declared.Refusal.{Refusal}
+use Rattle.verdict.specs.Answer.{reason_number}
 use Rattle.matrix.specs.Limits.{max_strains}
 use Rattle.records.specs.Names.{max_name}
 use Rattle.records.specs.Form.{head_size, end_at}
 use Rattle.writing.specs.Text.{Wrote}
-use Rattle.lines.specs.Lines.{line, edge_lines}
-use Rattle.answer_lines.specs.Texts.{by_answer}
+use Rattle.lines.specs.Lines.{line, edge_lines, refused_line}
 use Rattle.newick_text.specs.Tree.{max_text}
 use Rattle.newick_survey.specs.Text.{Surveyed}
 use Rattle.newick_survey.specs.declared.Survey.{Survey}
@@ -39,11 +39,12 @@ row_of parents thousandths e = pos (get_or parents e 0) ∷ entry_of thousandths
 unfoldable pub tree_lines : ℕ → ℕ → List ℕ → List ℤ → List ℕ
 tree_lines N K parents thousandths = line tree_word (pos N ∷ pos K ∷ []) ++ edge_lines K (row_of parents thousandths)
 
-abbrev pub survey_text : Survey → List ℕ
-survey_text v = by_answer (answer_of v.verdict) (tree_lines v.strains v.edges v.parents v.numerators)
+abbrev pub survey_text : Result Survey Refusal → List ℕ
+survey_text (Ok v) = tree_lines v.strains v.edges v.parents v.numerators
+survey_text (Err q) = refused_line (reason_number q.reason) q.place
 
 -- the print of what the input shows
 pub record Printed (s before after : List ℕ) (next : ℕ) : Type 0 where
-  pub found : Survey
+  pub found : Result Survey Refusal
   pub surveyed : Surveyed (names_part s) (text_part s) found
   pub wrote : Wrote before after 0 (survey_text found) next

@@ -2,8 +2,7 @@
 // place. Where reading fails it prints nothing.
 #![tactic(auto)]
 
-ghost use Rattle.std.specs.Prelude.{◌≡◌, [], ◌∷◌, ◌+◌, ◌*◌, ◌≤◌, pos, length, take};
-ghost use Rattle.verdict.specs.Answer.{pass, answer_of};
+ghost use Rattle.std.specs.Prelude.{◌≡◌, [], ◌∷◌, ◌+◌, ◌*◌, ◌≤◌, pos, length, take, IfOk};
 ghost use Rattle.matrix.specs.Limits.{max_strains};
 ghost use Rattle.tree_theory.specs.Limits.{max_edges};
 ghost use Rattle.writing.specs.Text.{Wrote};
@@ -16,18 +15,11 @@ use newick_survey::Survey;
 use newick_words::MAX_TEXT;
 use records::Layout;
 use tree::Tree;
-use verdict::Verdict;
+use verdict::Refusal;
 
 // How much of the input is looked at: the longest names record that passes, the longest text, and a byte more, so that a longer text is
 // refused for its length.
 const INPUT: usize = Layout::HEAD + (Layout::MAX_NAME + 1) * Matrix::MAX_STRAINS + MAX_TEXT + 1;
-
-// Room for it.
-fn room() -> [u8; INPUT]
-    ensures { input_size ≡ length result }
-{
-    [0; INPUT]
-}
 
 // Where the names record ends: where its length says, or with the input where it is cut.
 fn record_end(s: &[u8]) -> usize
@@ -63,11 +55,9 @@ fn edge_lines(
     ensures { Wrote text.old text.new at (edge_lines k (row_of parents.now thousandths.now)) result }
 {
     let mut next = at;
-    let mut v = 0;
-    while v < k {
+    for v in 0..k {
         let values = [v as i64, whole(parents[v]), thousandths[v]];
         next = lines::line(text, next, b"edge", &values);
-        v += 1;
     }
     next
 }
@@ -90,19 +80,21 @@ fn tree_lines(
 }
 
 // The print of what a text shows: its table, or the line of the refusal.
-fn survey_text(found: Survey, text: &mut [u8]) -> usize
-    requires strains_le_max_strains { answer_of found.verdict ≡ pass → (found.strains ≤ max_strains) × (found.edges ≤ max_edges) }
+fn survey_text(found: &Result<Survey, Refusal>, text: &mut [u8]) -> usize
+    requires strains_le_max_strains { IfOk found.now (λ v. (v.strains ≤ max_strains) × (v.edges ≤ max_edges)) }
     requires room { page_size ≤ length text.old }
-    ensures { Wrote text.old text.new 0 (survey_text found) result }
+    ensures { Wrote text.old text.new 0 (survey_text found.now) result }
 {
-    let answer = found.verdict;
-    if let Verdict::Refused(refusal) = answer {
-        let place = refusal.place;
-        return lines::refused_line(text, 0, verdict::number(Verdict::Refused(refusal)), place);
+    match found {
+        Ok(tree) => tree_lines(
+            text,
+            tree.strains,
+            tree.edges,
+            &tree.parents,
+            &tree.numerators,
+        ),
+        Err(refusal) => lines::refused_line(text, 0, u32::from(refusal.reason), refusal.place),
     }
-    let parents = found.parents;
-    let thousandths = found.numerators;
-    tree_lines(text, found.strains, found.edges, &parents, &thousandths)
 }
 
 // The answer to an input.
@@ -111,14 +103,13 @@ fn answer(s: &[u8], text: &mut [u8]) -> usize
     ensures { Printed s.now text.old text.new result }
 {
     let end = record_end(s);
-    survey_text(newick_survey::survey_text(&s[..end], &s[end..]), text)
+    survey_text(&newick_survey::survey_text(&s[..end], &s[end..]), text)
 }
 
 fn main(rt: HostRuntime) {
-    let mut space = room();
-    let taken = streams::take_in(&rt, &mut space);
-    if taken.whole {
-        let mut out = pages::page();
-        streams::put_out(&rt, answer(&space[..taken.count], &mut out), &out);
+    let mut space: [u8; INPUT] = arrays::filled(0);
+    if let Ok(count) = streams::take_in(&rt, &mut space) {
+        let mut out: [u8; pages::PAGE] = arrays::filled(0);
+        streams::put_out(&rt, answer(&space[..count], &mut out), &out);
     }
 }

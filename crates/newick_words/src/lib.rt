@@ -105,17 +105,18 @@ fn digits_at(text: &[u8], at: usize) -> Digits
     requires { at ≤ length text.now }
     ensures { DigitsRead text.now at result }
 {
-    let mut end = at;
     let mut number = 0;
-    while end < text.len() {
+    for end in at..text.len() {
         let byte = text[end];
         if !digits::is_digit(byte) {
             return Digits { end, number };
         }
         number = digits::longer(number, byte);
-        end += 1;
     }
-    Digits { end, number }
+    Digits {
+        end: text.len(),
+        number,
+    }
 }
 
 // A length that was read: where it ends, and its thousandths, cut.

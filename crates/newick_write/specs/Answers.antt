@@ -1,6 +1,7 @@
 -- The call without a fit (RULES, Trees in text): names, a tree and thousandths, and the text that they are.
-use Rattle.std.specs.Prelude.{◌≡◌, false, cond, not, List, ℕ, ◌+◌, ◌≤◌, eqb, ltb, ℤ, length}
+use Rattle.std.specs.Prelude.{◌≡◌, false, cond, not, List, ℕ, ◌+◌, ◌≤◌, eqb, ltb, ℤ, length, Result, IfOk, IfErr}
 use Rattle.exact.specs.Table.{entry_of}
+use Rattle.verdict.specs.declared.Refusal.{Refusal}
 use Rattle.verdict.specs.Answer.{Answer, pass, number, answer_of, test, ◌or_else◌}
 use Rattle.matrix.specs.Limits.{max_strains}
 use Rattle.tree_theory.specs.Tests.{tree_tests}
@@ -8,13 +9,11 @@ use Rattle.lengths.specs.Tests.{lengths_tests}
 use Rattle.records.specs.Names.{name_start}
 use Rattle.records.specs.Form.{head_size}
 use Rattle.names.specs.Record.{name_of, names_out, record_count, names_tests}
-use Rattle.names.specs.declared.Named.{Named}
 use Rattle.writing.specs.Text.{Wrote}
 use Rattle.newick_text.specs.Length.{length_text}
 use Rattle.newick_text.specs.Tree.{Row, text_of, max_text}
 use Rattle.newick_text.specs.Table.{children_of}
 use Rattle.newick_text.specs.Tests.{thousand}
-use Rattle.newick_write.specs.declared.Written.{Written}
 
 -- the children of the root: of a tree of n strains whose names stand in s from a place on, with thousandths for lengths
 abbrev pub root_of : List ℕ → ℕ → ℕ → List ℕ → List ℤ → Row
@@ -46,16 +45,16 @@ abbrev pub strains_cut : ℕ → ℕ
 strains_cut count = cond (ltb max_strains count) (max_strains + 1) count
 
 -- the answer, and where it passes the count of the names
-pub record Judged (names ps : List ℕ) (ms : List ℤ) (room : ℕ) (r : Named) : Type 0 where
-  pub answer : answer_of r.verdict ≡ write_tests names ps ms room
-  pub count : write_tests names ps ms room ≡ pass → r.count ≡ record_count names
+pub record Judged (names ps : List ℕ) (ms : List ℤ) (room : ℕ) (r : Result ℕ Refusal) : Type 0 where
+  pub answer : answer_of r ≡ write_tests names ps ms room
+  pub count : IfOk r (λ n. n ≡ record_count names)
 
 -- ---- what a writer hands back, where the matter and the buffer get the answer a
--- the text at the front of the buffer, everything behind it as it was; a refusal has no length and leaves the buffer as it was
-pub record Told (a : Answer) (text before after : List ℕ) (r : Written) : Type 0 where
-  pub answer : answer_of r.verdict ≡ a
-  pub written : a ≡ pass → Wrote before after 0 text r.length
-  pub kept : (a ≡ pass → ⊥) → (after ≡ before) × (r.length ≡ 0)
+-- the text at the front of the buffer, everything behind it as it was; a refusal leaves the buffer as it was
+pub record Told (a : Answer) (text before after : List ℕ) (r : Result ℕ Refusal) : Type 0 where
+  pub answer : answer_of r ≡ a
+  pub written : IfOk r (λ next. Wrote before after 0 text next)
+  pub kept : IfErr r (λ _. after ≡ before)
 
 -- the same with the number, and the length lent beside it
 pub record ToldNumber (a : Answer) (text before after : List ℕ) (was is : ℕ) (r : ℕ) : Type 0 where
@@ -64,7 +63,7 @@ pub record ToldNumber (a : Answer) (text before after : List ℕ) (was is : ℕ)
   pub kept : (a ≡ pass → ⊥) → (after ≡ before) × (is ≡ was)
 
 -- the call without a fit
-abbrev pub WriteAnswer : List ℕ → List ℕ → List ℤ → List ℕ → List ℕ → Written → Type 0
+abbrev pub WriteAnswer : List ℕ → List ℕ → List ℤ → List ℕ → List ℕ → Result ℕ Refusal → Type 0
 WriteAnswer names ps ms before after r = Told (write_tests names ps ms (length before)) (tree_text names head_size (record_count names) ps ms) before after r
 
 abbrev pub NumberAnswer : List ℕ → List ℕ → List ℤ → List ℕ → List ℕ → ℕ → ℕ → ℕ → Type 0

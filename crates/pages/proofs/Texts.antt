@@ -1,5 +1,5 @@
 -- The text of an answer.
--- `text-by-answer`: the text that a verdict asks for is the print of whatever gives the same answer. `fits_page`, `whole_page`, `small_page`: it ends within a page. `one-shown`: one text and one buffer.
+-- `text-by-answer`: the print of a result is that of whatever gives the same answer. `fits_page`, `whole_page`, `small_page`: it ends within a page. `one-shown`: one text and one buffer.
 use mathlib.Core.Path.{◌≡◌, refl, sym, ◌∙◌, ap}
 use mathlib.Core.List.{List}
 use Prim.Native.Nat.{ℕ, ◌≤◌, ◌<◌}
@@ -8,22 +8,20 @@ use native.Mathlib.Omega.{arith}
 use lib.ListN.{length}
 use Rattle.exact.proofs.Decide.{by_cases}
 use Rattle.verdict.specs.Answer.{Answer, pass, fault, answer_of}
-use Rattle.verdict.specs.declared.Verdict.{Verdict}
+use Rattle.verdict.specs.declared.Refusal.{Refusal}
+use Rattle.std.specs.Prelude.{Result, Ok, Err, IfOk}
 use Rattle.writing.specs.Text.{Wrote}
 use Rattle.writing.proofs.Settled.{settled}
 use Rattle.writing.proofs.Writing.{wrote-length}
 use Rattle.lines.specs.Page.{page_size}
 use Rattle.lines.proofs.Sizes.{refused-length}
-use Rattle.answer_lines.specs.Texts.{by_answer}
+use Rattle.answer_lines.specs.Texts.{by_answer, by_result}
 use Rattle.pages.specs.Texts.{ShownOn}
 
 -- ---- by the answer
-same-fit : (a : Answer) (own fit : List ℕ) → (a ≡ pass → own ≡ fit) → by_answer a own ≡ by_answer a fit
-same-fit pass own fit same = same refl
-same-fit (fault k p) own fit same = refl
-
-pub text-by-answer : (a : Answer) (fit : List ℕ) (v : Verdict) (own : List ℕ) → answer_of v ≡ a → (a ≡ pass → own ≡ fit) → by_answer (answer_of v) own ≡ by_answer a fit
-text-by-answer a fit v own e same = ap (λ (x : Answer). by_answer x own) e ∙ same-fit a own fit same
+pub text-by-answer : {A : Type 0} (print : A → List ℕ) (a : Answer) (fit : List ℕ) (r : Result A Refusal) → answer_of r ≡ a → IfOk r (λ x. print x ≡ fit) → by_result print r ≡ by_answer a fit
+text-by-answer print a fit (Ok x) e same = same ∙ ap (λ (y : Answer). by_answer y fit) e
+text-by-answer print a fit (Err q) e same = ap (λ (y : Answer). by_answer y fit) e
 
 -- the print fits a page
 pub fits_page : (a : Answer) (fit : List ℕ) → (a ≡ pass → length fit ≤ page_size) → length (by_answer a fit) ≤ page_size

@@ -12,13 +12,6 @@ use verdict::Rule;
 // The bytes of a page: every print fits one.
 pub const PAGE: usize = 16_384;
 
-// A blank page.
-pub fn page() -> [u8; PAGE]
-    ensures { result ≡ table page_size (λ _. 0) }
-{
-    [0; PAGE]
-}
-
 // The print of a sheet by a rule, at the front of a buffer of a page or more; a smaller one is left as it was. The
 // result is how many bytes the print has, 0 where the buffer is too small.
 fn print_by(rule: Rule, s: &[u8], text: &mut [u8]) -> usize
@@ -27,7 +20,7 @@ fn print_by(rule: Rule, s: &[u8], text: &mut [u8]) -> usize
     if text.len() < PAGE {
         return 0;
     }
-    answer_lines::report_text(rule, sheet::sheet_report(rule, s), text)
+    answer_lines::report_text(rule, &sheet::sheet_report(rule, s), text)
 }
 
 // The print of a sheet, at the front of a buffer of a page or more; a smaller one is left as it was. The result is how
@@ -53,5 +46,5 @@ pub fn unfitted_print(s: &[u8], text: &mut [u8]) -> usize
     if text.len() < PAGE {
         return 0;
     }
-    answer_lines::direct_text(unfitted_sheet::unfitted_fit(s), text)
+    answer_lines::direct_text(&unfitted_sheet::unfitted_fit(s), text)
 }

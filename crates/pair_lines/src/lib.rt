@@ -46,8 +46,7 @@ fn row_lines(
 {
     let later = n - (i + 1);
     let mut next = at;
-    let mut k = 0;
-    while k < later {
+    for k in 0..later {
         let j = i + 1 + k;
         next = pair_line::pair_line(
             text,
@@ -60,7 +59,6 @@ fn row_lines(
             inner_paths::path(n, edges, parents, numerators, exactly, i, j),
             inner_paths::path(n, edges, parents, rounded, nearly, i, j),
         );
-        k += 1;
     }
     next
 }
@@ -86,18 +84,16 @@ fn all_rows(
     requires n_in_bounds { at + widest_pair * pair_count n ≤ length text.old }
     ensures { Wrote text.old text.new at (rows_by (word_at names.now starts.now) n edges distances.now (parent_of parents.now) d (entry_of numerators.now) (entry_of rounded.now)) result }
 {
-    let mut exactly = inner_paths::no_paths();
-    let mut nearly = inner_paths::no_paths();
+    let mut exactly: [i64; SPOTS] = arrays::filled(0);
+    let mut nearly: [i64; SPOTS] = arrays::filled(0);
     inner_paths::fill_paths(n, edges, parents, numerators, &mut exactly);
     inner_paths::fill_paths(n, edges, parents, rounded, &mut nearly);
     let mut next = at;
-    let mut i = 0;
-    while i < n {
+    for i in 0..n {
         next = row_lines(
             text, next, n, edges, i, d, distances, parents, numerators, &exactly, rounded, &nearly,
             names, starts,
         );
-        i += 1;
     }
     next
 }

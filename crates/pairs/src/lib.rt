@@ -1,9 +1,8 @@
-// Pairs of strains: the order in which loops visit them.
+// Pairs of strains: the order in which a matrix has them.
 #![tactic(auto)]
 
 ghost use Rattle.std.specs.Prelude.{◌≡◌, ◌<◌};
-ghost use Rattle.matrix.specs.Limits.{max_strains};
-ghost use Rattle.pairs.specs.Next.{next_pair};
+ghost use Rattle.matrix.specs.Place.{behind};
 
 // Two strains, the first below the second.
 #[derive(Clone, Copy)]
@@ -14,8 +13,8 @@ pub struct Pair {
 
 // The pair behind i j, column by column: 01, 02, 12, 03, 13, 23, ..
 pub fn next_pair(i: usize, j: usize) -> Pair
-    requires { (i < j) × (j < max_strains) }
-    ensures { result ≡ next_pair i j }
+    requires { (i < 65536) × (j < 65536) }
+    ensures { (result.i ≡ (behind (i, j)).0) × (result.j ≡ (behind (i, j)).1) }
 {
     if i + 1 < j {
         Pair { i: i + 1, j }

@@ -13,23 +13,14 @@ ghost use Rattle.path_sums.specs.Sums.{Alone, Gathered, PathSums};
 
 use tree::Tree;
 
-// Zeros, room for the sums of each vertex.
-pub fn no_sums() -> [i64; Tree::MAX_VERTICES]
-    ensures { result ≡ table max_vertices (λ _. pos 0) }
-{
-    [0; Tree::MAX_VERTICES]
-}
-
 // One for each strain, before any has gone up.
 fn strains_alone(n: usize, sizes: &mut [i64; Tree::MAX_VERTICES])
     requires n_le_max_strains { n ≤ max_strains }
     requires sizes_value { sizes.old ≡ table max_vertices (λ _. pos 0) }
     ensures { Alone n sizes.new }
 {
-    let mut i = 0;
-    while i < n {
+    for i in 0..n {
         sizes[i] = 1;
-        i += 1;
     }
 }
 
@@ -55,13 +46,11 @@ fn gather(
     requires ways_value { ways.old ≡ table max_vertices (λ _. pos 0) }
     ensures { Gathered n edges (parent_of parents.now) (entry_of x.now) sizes.new ways.new }
 {
-    let mut v = 0;
-    while v < edges {
+    for v in 0..edges {
         let m = parents[v] as usize;
         let size = sizes[v];
         sizes[m] = sizes[m] + size;
         ways[m] = come_up(ways[m], ways[v], size, x[v]);
-        v += 1;
     }
 }
 
@@ -99,9 +88,7 @@ fn spread(
     ensures { PathSums n edges (parent_of parents.now) (entry_of x.now) sizes.new }
 {
     let all = n as i64;
-    let mut w = edges;
-    while w > 0 {
-        w -= 1;
+    for w in (0..edges).rev() {
         let size = sizes[w];
         let way = ways[w];
         // The parent had its turn, or is the root: its paths to all strains stand there now.
@@ -124,7 +111,7 @@ pub fn path_sums(
     ensures { PathSums n edges (parent_of parents.now) (entry_of x.now) sums.new }
 {
     strains_alone(n, sums);
-    let mut ways = no_sums();
+    let mut ways: [i64; Tree::MAX_VERTICES] = arrays::filled(0);
     gather(n, edges, parents, x, sums, &mut ways);
     spread(n, edges, parents, x, sums, &mut ways);
 }

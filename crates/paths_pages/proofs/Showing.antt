@@ -5,8 +5,8 @@ use mathlib.Core.List.{List}
 use Prim.Native.Nat.{ℕ, ◌≤◌}
 use native.Mathlib.Omega.{arith}
 use lib.ListN.{length}
-use Rattle.verdict.specs.Answer.{Answer, pass, fault, answer_of, refusal_of, number_of, test, ◌or_else◌}
-use Rattle.verdict.specs.declared.Verdict.TheVariants.{Accepted, Refused}
+use Rattle.verdict.specs.Answer.{Answer, pass, fault, reason_number, refusal_of, test, ◌or_else◌}
+use Rattle.std.specs.Prelude.{Ok, Err}
 use Rattle.verdict.specs.declared.Refusal.{Refusal}
 use Rattle.verdict.specs.declared.Rule.TheVariants.{Plain}
 use Rattle.verdict.proofs.Answers.{or_else_pass}
@@ -26,7 +26,6 @@ use Rattle.reading.specs.Holds.{strains_of, distances_of, parents_of, denominato
 use Rattle.reading.specs.Tests.{strains_differ, read_tests, held_tests, sheet_tests}
 use Rattle.reading.proofs.Parts.{shaped}
 use Rattle.names.specs.Record.{name_of}
-use Rattle.names.specs.declared.Named.{Named}
 use Rattle.names.proofs.Laws.{name-long, name-size, names-formed}
 use Rattle.sheet_names.specs.Labels.{has_names, names_from, label_tests, named_tests, Labelled}
 use Rattle.sheet_names.proofs.Labels.{label_form, label_within}
@@ -73,27 +72,27 @@ module _ (s : List ℕ) (no : has_names s ≡ false) (r : List ℕ) (e : r ≡ n
       ∙ sym (ap (λ (b : Bool). cond b (by_answer (named_tests s) (pairs_of_sheet (name_of s (names_from s)) s)) (by_answer (sheet_tests Plain s) (pairs_of_sheet decimal s))) no)
 
 -- ---- by names
-module _ (s : List ℕ) (yes : has_names s ≡ true) (x : Named) (a : Labelled s x) where
+module _ (s : List ℕ) (yes : has_names s ≡ true) where
   by_names : by_answer (named_tests s) (pairs_of_sheet (name_of s (names_from s)) s) ≡ paths_text s
   by_names = sym (ap (λ (b : Bool). cond b (by_answer (named_tests s) (pairs_of_sheet (name_of s (names_from s)) s)) (by_answer (sheet_tests Plain s) (pairs_of_sheet decimal s))) yes)
 
-  pub names-refused : {b c : List ℕ} {next : ℕ} (q : Refusal) (k : ℕ) → x.verdict ≡ Refused q → k ≡ number_of (Refused q) → pairs_page ≤ length b
+  pub names-refused : {b c : List ℕ} {next : ℕ} (q : Refusal) (k : ℕ) → Labelled s (Err q) → k ≡ reason_number q.reason → pairs_page ≤ length b
       → Wrote b c 0 (refused_line k q.place) next → ShownOn pairs_page (paths_text s) b c next
-  names-refused {b} {c} {next} q k e f big w =
-      let told : refusal_of q ≡ named_tests s = ap (λ (y : Answer). y or_else held_tests Plain s) (sym (ap answer_of e) ∙ a.answer) in
+  names-refused {b} {c} {next} q k a f big w =
+      let told : refusal_of q ≡ named_tests s = ap (λ (y : Answer). y or_else held_tests Plain s) a.answer in
       shown s b c next _ big by_names (refusal-written (named_tests s) (pairs_of_sheet (name_of s (names_from s)) s) q k told f w)
 
-  module _ (e : x.verdict ≡ Accepted) where
+  module _ {from : ℕ} (a : Labelled s (Ok from)) where
     passed : label_tests s ≡ pass
-    passed = sym a.answer ∙ ap answer_of e
+    passed = sym a.answer
 
-    pub names-lent : NamesFrom s x.count (strains_of s)
-    names-lent = rw (a.from passed) (record {
+    pub names-lent : NamesFrom s from (strains_of s)
+    names-lent = rw (a.from) (record {
       within = label_within s passed;
       short = λ i h. omega (arith, name-size s (names_from s) (strains_of s) (label_within s passed) i h, (name-long (name_of s (names_from s) i) (names-formed s (names_from s) (strains_of s) (label_form s passed).1 i h)).1);
     })
 
-    pub named-text : by_answer (form_tests 4 s or_else held_tests Plain s) (pairs_of_sheet (name_of s x.count) s) ≡ paths_text s
+    pub named-text : by_answer (form_tests 4 s or_else held_tests Plain s) (pairs_of_sheet (name_of s from) s) ≡ paths_text s
     named-text =
-        ap₂ (λ (y : Answer) (n : ℕ). by_answer (y or_else held_tests Plain s) (pairs_of_sheet (name_of s n) s)) ((label_form s passed).0 ∙ sym passed) (a.from passed)
+        ap₂ (λ (y : Answer) (n : ℕ). by_answer (y or_else held_tests Plain s) (pairs_of_sheet (name_of s n) s)) ((label_form s passed).0 ∙ sym passed) a.from
         ∙ by_names

@@ -12,16 +12,33 @@ ghost use Rattle.reading.specs.Tests.{read_tests, held_tests};
 ghost use Rattle.names.specs.Record.{name_of};
 ghost use Rattle.pages.specs.Texts.{ShownOn};
 ghost use Rattle.pair_lines.specs.Lines.{pairs_page, NamesFrom};
-ghost use Rattle.paths_pages.specs.Texts.{pairs_of_sheet, paths_text, PathsClose};
+ghost use Rattle.paths_pages.specs.Texts.{pairs_of_sheet, paths_text, PathsClose, JudgedSheet};
 
 use pair_lines::PAGE;
-use verdict::{Rule, Verdict};
+use reading::Sheet;
+use verdict::{Refusal, Rule};
 
-// A blank page.
-pub fn page() -> [u8; PAGE]
-    ensures { pairs_page ≡ length result }
+// What a sheet of so many records holds, where it stands by the plain rule.
+fn judged(s: &[u8], count: usize) -> Result<Sheet, Refusal>
+    requires { (2 < count) × (count ≤ max_records) }
+    ensures { JudgedSheet count s.now result }
 {
-    [0; PAGE]
+    let sheet = reading::read(s, count)?;
+    let pairs = sheet.pairs;
+    let parents = sheet.parents;
+    let end = sheet.end;
+    let edges = sheet.edges;
+    let distances = sheet.distances;
+    let numerators = sheet.numerators;
+    judging::judge_proposal(
+        Rule::Plain,
+        sheet.strains,
+        &distances[..pairs],
+        &s[parents..end],
+        sheet.denominator,
+        &numerators[..edges],
+    )?;
+    Ok(sheet)
 }
 
 // The print of a sheet of so many records, its strains called by names that stand from a place on.
@@ -31,40 +48,27 @@ fn print_pairs(s: &[u8], count: usize, names: &[u8], from: usize, text: &mut [u8
     requires pairs_page_in_bounds { pairs_page ≤ length text.old }
     ensures { Wrote text.old text.new 0 (by_answer (form_tests count s.now or_else held_tests Rule.Plain s.now) (pairs_of_sheet (name_of names.now from) s.now)) result }
 {
-    let sheet = reading::read(s, count);
-    let of_reader = sheet.verdict;
-    if let Verdict::Refused(refusal) = of_reader {
-        let place = refusal.place;
-        return lines::refused_line(text, 0, verdict::number(Verdict::Refused(refusal)), place);
+    match judged(s, count) {
+        Ok(sheet) => {
+            let pairs = sheet.pairs;
+            let parents = sheet.parents;
+            let end = sheet.end;
+            let edges = sheet.edges;
+            let distances = sheet.distances;
+            let numerators = sheet.numerators;
+            pair_lines::pairs_text(
+                text,
+                sheet.strains,
+                &distances[..pairs],
+                &s[parents..end],
+                sheet.denominator,
+                &numerators[..edges],
+                names,
+                from,
+            )
+        }
+        Err(refusal) => lines::refused_line(text, 0, u32::from(refusal.reason), refusal.place),
     }
-    let pairs = sheet.pairs;
-    let parents = sheet.parents;
-    let end = sheet.end;
-    let edges = sheet.edges;
-    let distances = sheet.distances;
-    let numerators = sheet.numerators;
-    let found = judging::judge_proposal(
-        Rule::Plain,
-        sheet.strains,
-        &distances[..pairs],
-        &s[parents..end],
-        sheet.denominator,
-        &numerators[..edges],
-    );
-    if let Verdict::Refused(refusal) = found {
-        let place = refusal.place;
-        return lines::refused_line(text, 0, verdict::number(Verdict::Refused(refusal)), place);
-    }
-    pair_lines::pairs_text(
-        text,
-        sheet.strains,
-        &distances[..pairs],
-        &s[parents..end],
-        sheet.denominator,
-        &numerators[..edges],
-        names,
-        from,
-    )
 }
 
 // The print of the pairs of a sheet, at the front of a buffer of 262,144 bytes or more; a smaller one is left as it was. The result is how many
@@ -80,11 +84,8 @@ pub fn paths_print(s: &[u8], text: &mut [u8]) -> usize
         let numbers = labels::numbers();
         return print_pairs(s, 3, &numbers, 0, text);
     }
-    let named = sheet_names::labelled(s);
-    let of_names = named.verdict;
-    if let Verdict::Refused(refusal) = of_names {
-        let place = refusal.place;
-        return lines::refused_line(text, 0, verdict::number(Verdict::Refused(refusal)), place);
+    match sheet_names::labelled(s) {
+        Ok(from) => print_pairs(s, 4, s, from, text),
+        Err(refusal) => lines::refused_line(text, 0, u32::from(refusal.reason), refusal.place),
     }
-    print_pairs(s, 4, s, named.count, text)
 }

@@ -10,7 +10,7 @@ use lib.Seq.{get_or-set_same, get_or-set_other}
 use Rattle.exact.proofs.Decide.{by_cases}
 use Rattle.exact.proofs.Fill.{table_is}
 use Rattle.matrix.specs.Place.{pair_count, place, pair_at}
-use Rattle.matrix.proofs.Places.{count-more, count_room, count_less, at_place}
+use Rattle.matrix.proofs.Places.{count-more, count_room, at_place}
 use Rattle.phylip_text.specs.Form.{distances_read}
 use Rattle.phylip_grid.specs.Grid.{grid_at, Filling}
 
@@ -28,31 +28,24 @@ module _ (grid : List ℕ) (j first : ℕ) (begins : first ≡ pair_count j) whe
 
 -- ---- all: those of the strains before j are taken
 pub record TakenAt (grid : List ℕ) (count j first : ℕ) (ds : List ℕ) : Type 0 where
-  pub some : 0 < j
   pub begins : first ≡ pair_count j
-  pub within : first ≤ count
   pub size : length ds ≡ count
   pub filling : Filling grid first ds
 
 module _ (grid : List ℕ) (n count : ℕ) (all : count ≡ pair_count n) where
-  pub take-start : (ds : List ℕ) → length ds ≡ count → TakenAt grid count 1 0 ds
-  take-start ds e = record { some = omega arith; begins = refl; within = omega arith; size = e; filling = λ m h. absurd (omega arith) }
+  pub take-start : (ds : List ℕ) → length ds ≡ count → TakenAt grid count 0 0 ds
+  take-start ds e = record { begins = refl; size = e; filling = λ m h. absurd (omega arith) }
 
   module _ {j first : ℕ} {ds : List ℕ} (t : TakenAt grid count j first ds) where
-    pub strain : first < count → j < n
-    strain more = count_less n j (omega (arith, t.begins, all))
+    pub room : j < n → first + j ≤ count
+    room more = omega (arith, t.begins, all, count_room n j more)
 
-    pub room : first < count → first + j ≤ count
-    room more = omega (arith, t.begins, all, count_room n j (strain more))
-
-    pub take-turn : (ds' : List ℕ) → first < count → length ds' ≡ length ds → Filling grid (first + j) ds' → TakenAt grid count (j + 1) (first + j) ds'
-    take-turn ds' more e f = record {
-      some = omega arith;
+    pub take-turn : (ds' : List ℕ) → length ds' ≡ length ds → Filling grid (first + j) ds' → TakenAt grid count (j + 1) (first + j) ds'
+    take-turn ds' e f = record {
       begins = let q : first + j ≡ pair_count (suc j) = omega (arith, t.begins, count-more j) in q ∙ ap pair_count (sym (add-one j));
-      within = room more;
       size = e ∙ t.size;
       filling = f;
     }
 
-    pub take-end : count ≤ first → ds ≡ distances_read n (grid_at grid)
-    take-end h = table_is 0 (λ k. grid_at grid (pair_at k).0 (pair_at k).1) (pair_count n) ds (t.size ∙ all) (λ k l. t.filling k (omega (arith, all, t.within)))
+    pub take-end : j ≡ n → ds ≡ distances_read n (grid_at grid)
+    take-end h = table_is 0 (λ k. grid_at grid (pair_at k).0 (pair_at k).1) (pair_count n) ds (t.size ∙ all) (λ k l. t.filling k (omega (arith, t.begins, ap pair_count h)))

@@ -30,12 +30,10 @@ fn row_off(grid: &[u16], n: usize, i: usize) -> bool
     requires { (i < n) × (n ≤ max_strains) × (max_strains * max_strains ≤ length grid.now) }
     ensures { result ≡ some n (cell_off grid.now i) }
 {
-    let mut j = 0;
-    while j < n {
+    for j in 0..n {
         if grid[Matrix::MAX_STRAINS * i + j] != due(grid, i, j) {
             return true;
         }
-        j += 1;
     }
     false
 }
@@ -45,12 +43,10 @@ pub fn halves_off(grid: &[u16], n: usize) -> bool
     requires { (n ≤ max_strains) × (max_strains * max_strains ≤ length grid.now) }
     ensures { result ≡ halves_out n (grid_at grid.now) }
 {
-    let mut i = 0;
-    while i < n {
+    for i in 0..n {
         if row_off(grid, n, i) {
             return true;
         }
-        i += 1;
     }
     false
 }
@@ -61,10 +57,8 @@ fn column(grid: &[u16], j: usize, first: usize, distances: &mut [u16])
     requires filling { Filling grid.now first distances.old }
     ensures { (length distances.new ≡ length distances.old) × Filling grid.now (first + j) distances.new }
 {
-    let mut i = 0;
-    while i < j {
+    for i in 0..j {
         distances[first + i] = grid[Matrix::MAX_STRAINS * i + j];
-        i += 1;
     }
 }
 
@@ -73,11 +67,9 @@ pub fn take_distances(grid: &[u16], n: usize, distances: &mut [u16])
     requires { (n ≤ max_strains) × (max_strains * max_strains ≤ length grid.now) × (length distances.old ≡ pair_count n) }
     ensures { distances.new ≡ distances_read n (grid_at grid.now) }
 {
-    let mut j = 1;
     let mut first = 0;
-    while first < distances.len() {
+    for j in 0..n {
         column(grid, j, first, distances);
         first += j;
-        j += 1;
     }
 }

@@ -13,6 +13,7 @@ use Rattle.exact.proofs.Decide.{by_cases}
 use Rattle.digits.specs.Digits.{run, is_blank, is_digit, at_most, number_from}
 use Rattle.digits.proofs.Reading.{both_true, inside, slice_is}
 use Rattle.phylip_text.specs.Form.{past, line_end_size, line_end, end_bad, next_line, count_size, count_of, behind_count}
+use Rattle.std.specs.Prelude.{Some, None}
 use Rattle.phylip_lines.specs.Lines.{EndRead, CountRead}
 
 -- a line end is in the text
@@ -40,16 +41,29 @@ module _ (s : List ℕ) (at end : ℕ) (e : end ≡ at + run is_blank (drop at s
       left : length (past (drop at s)) ≡ length s - end
       left = ap length past_is ∙ length-drop end s
 
-  pub end_read : (x y size : ℕ) (bad : Bool) → x ≡ get_or s end 0 → y ≡ get_or s (end + 1) 0 → size ≡ line_end_size x y → bad ≡ (not (eqb end (length s)) && eqb size 0)
-      → EndRead s at (record { bad = bad; next = end + size })
-  unfolding end_bad next_line
-  end_read x y size bad ex ey es eb = let z : size ≡ line_end_size (get_or s end 0) (get_or s (end + 1) 0) = es ∙ ap₂ line_end_size ex ey in record {
-    bad-is = eb ∙ ap₂ (λ (p : Bool) (n : ℕ). not p && eqb n 0) over-is (z ∙ sym size_is);
-    within = rw z (ends-within s end h);
-    next-is = sym (drop-drop size end s) ∙ ap₂ (λ (n : ℕ) (l : List ℕ). drop n l) (z ∙ sym size_is) (sym past_is);
-  }
+  module _ (x y size : ℕ) (ex : x ≡ get_or s end 0) (ey : y ≡ get_or s (end + 1) 0) (es : size ≡ line_end_size x y) where
+    as_text : size ≡ line_end_size (get_or s end 0) (get_or s (end + 1) 0)
+    as_text = es ∙ ap₂ line_end_size ex ey
 
-module _ (s : List ℕ) (start end n : ℕ) (e : start ≡ 0 + run is_blank (drop 0 s)) (f : end ≡ start + run is_digit (drop start s)) (h : end ≤ length s) where
+    -- what ends the line is in the text
+    pub end-within : end + size ≤ length s
+    end-within = rw as_text (ends-within s end h)
+
+    bad-of : (bad : Bool) → bad ≡ (not (eqb end (length s)) && eqb size 0) → bad ≡ end_bad (drop at s)
+    unfolding end_bad
+    bad-of bad eb = eb ∙ ap₂ (λ (p : Bool) (n : ℕ). not p && eqb n 0) over-is (as_text ∙ sym size_is)
+
+    pub no_end : (bad : Bool) → bad ≡ (not (eqb end (length s)) && eqb size 0) → bad ≡ true → EndRead s at None
+    no_end bad eb e = record { bad-is = sym e ∙ bad-of bad eb; next = tt }
+
+    pub end_read : (bad : Bool) → bad ≡ (not (eqb end (length s)) && eqb size 0) → bad ≡ false → EndRead s at (Some (end + size))
+    unfolding next_line
+    end_read bad eb e = record {
+      bad-is = sym e ∙ bad-of bad eb;
+      next = (end-within, sym (drop-drop size end s) ∙ ap₂ (λ (n : ℕ) (l : List ℕ). drop n l) (as_text ∙ sym size_is) (sym past_is));
+    }
+
+module _ (s : List ℕ) (start end : ℕ) (e : start ≡ 0 + run is_blank (drop 0 s)) (f : end ≡ start + run is_digit (drop start s)) (h : end ≤ length s) where
   begins : past s ≡ drop start s
   begins = let q : run is_blank s ≡ start = omega (arith, e) in ap (λ (k : ℕ). drop k s) q
 
@@ -62,11 +76,16 @@ module _ (s : List ℕ) (start end n : ℕ) (e : start ≡ 0 + run is_blank (dro
       (λ q. eq-eqb start end q ∙ sym (eq-eqb (count_size s) 0 (omega (arith, digits_are))))
       (λ q. ne_eqb start end q ∙ sym (ne_eqb (count_size s) 0 (λ z. q (omega (arith, digits_are, f, z)))))
 
-  pub count-read : (none : Bool) → none ≡ eqb start end → n ≡ at_most (number_from 0 (slice start end s)) → CountRead s (record { none = none; strains = n; end = end })
+  pub no_count : start ≡ end → CountRead s None
+  no_count q = record { none_is = sym (eq-eqb start end q) ∙ none_is; counted = tt }
+
+  pub count-read : (n : ℕ) → (start ≡ end → ⊥) → n ≡ at_most (number_from 0 (slice start end s)) → CountRead s (Some (record { strains = n; end = end }))
   unfolding count_of behind_count
-  count-read none en es = record {
-    none_is = en ∙ none_is;
-    strains_are = es ∙ ap (λ (l : List ℕ). at_most (number_from 0 l)) (slice_is s start end ∙ ap₂ (λ (k : ℕ) (l : List ℕ). take k l) (sym digits_are) (sym begins));
-    within = h;
-    behind-is = let q : end ≡ start + count_size s = omega (arith, digits_are, f) in ap (λ (k : ℕ). drop k s) q ∙ sym (drop-drop (count_size s) start s) ∙ ap (drop (count_size s)) (sym begins);
+  count-read n d es = record {
+    none_is = sym (ne_eqb start end d) ∙ none_is;
+    counted = record {
+      strains_are = es ∙ ap (λ (l : List ℕ). at_most (number_from 0 l)) (slice_is s start end ∙ ap₂ (λ (k : ℕ) (l : List ℕ). take k l) (sym digits_are) (sym begins));
+      within = h;
+      behind-is = let q : end ≡ start + count_size s = omega (arith, digits_are, f) in ap (λ (k : ℕ). drop k s) q ∙ sym (drop-drop (count_size s) start s) ∙ ap (drop (count_size s)) (sym begins);
+    };
   }

@@ -31,43 +31,37 @@ fn unended(at: usize, length: usize, size: usize) -> bool
     size == 0
 }
 
-// What ends a line: whether nothing does, and where the next line begins.
-#[derive(Clone, Copy)]
-pub struct LineEnd {
-    pub bad: bool,
-    pub next: usize,
-}
-
-// The end of the line at a place, behind blanks.
-pub fn line_end(text: &[u8], at: usize) -> LineEnd
+// Where the line behind the one at a place begins, whose blanks and end are passed; none where nothing ends it.
+pub fn line_end(text: &[u8], at: usize) -> Option<usize>
     requires { at ≤ length text.now }
     ensures { EndRead text.now at result }
 {
     let end = digits::blanks_end(text, at);
     let size = line_end_size(digits::byte_at(text, end), digits::byte_at(text, end + 1));
-    LineEnd {
-        bad: unended(end, text.len(), size),
-        next: end + size,
+    if unended(end, text.len(), size) {
+        return None;
     }
+    Some(end + size)
 }
 
-// The count of a text: whether there is none, what it is, cut, and where it ends.
+// The count of a text: what it is, cut, and where it ends.
 #[derive(Clone, Copy)]
 pub struct Count {
-    pub none: bool,
     pub strains: u64,
     pub end: usize,
 }
 
-// The count at the front of a text, behind blanks.
-pub fn strain_count(text: &[u8]) -> Count
+// The count at the front of a text, behind blanks; none where no digit stands there.
+pub fn strain_count(text: &[u8]) -> Option<Count>
     ensures { CountRead text.now result }
 {
     let start = digits::blanks_end(text, 0);
     let end = digits::digits_end(text, start);
-    Count {
-        none: start == end,
+    if start == end {
+        return None;
+    }
+    Some(Count {
         strains: digits::number(text, 0, start, end),
         end,
-    }
+    })
 }

@@ -48,10 +48,8 @@ fn put_cells(text: &mut [u8], at: usize, n: usize, i: usize, distances: &[u16]) 
     ensures { Wrote text.old text.new at (pieces n (λ j. cell_written (value_at distances.now i j))) result }
 {
     let mut next = at;
-    let mut j = 0;
-    while j < n {
+    for j in 0..n {
         next = put_cell(text, next, value(distances, n, i, j));
-        j += 1;
     }
     next
 }
@@ -74,10 +72,8 @@ fn put_rows(text: &mut [u8], at: usize, n: usize, distances: &[u16], names: &[u8
     ensures { Wrote text.old text.new at (pieces n (row_written n distances.now names.now)) result }
 {
     let mut next = at;
-    let mut i = 0;
-    while i < n {
+    for i in 0..n {
         next = put_row(text, next, n, i, distances, names);
-        i += 1;
     }
     next
 }

@@ -4,7 +4,7 @@ use mathlib.Core.List.{List}
 use Prim.Native.Nat.{ℕ}
 use lib.ListN.{length}
 use Rattle.exact.proofs.Decide.{by_cases}
-use Rattle.verdict.specs.declared.Verdict.{Verdict}
+use Rattle.verdict.specs.Answer.{Verdict}
 use Rattle.verdict.proofs.Answers.{passes, same_answer}
 use Rattle.phylip_text.specs.Tests.{read_tests}
 use Rattle.phylip_read.specs.Answers.{Filled, ReadAnswer, NumberAnswer}

@@ -1,7 +1,7 @@
 -- What `read` and `phylip_read` hand back: for every text the answer, and both buffers.
 use Rattle.std.specs.Prelude.{◌≡◌, List, ℕ, length}
 use Rattle.verdict.specs.Answer.{pass, number, answer_of}
-use Rattle.verdict.specs.declared.Verdict.{Verdict}
+use Rattle.verdict.specs.Answer.{Verdict}
 use Rattle.phylip_text.specs.Tests.{read_tests, Reads}
 
 -- the buffers: the distances and the names of the text, or what was there before

@@ -17,20 +17,6 @@ use verdict::{Reason, Verdict};
 // As many name bytes as the most strains have.
 pub const MAX_NAMES: usize = NAME * Matrix::MAX_STRAINS;
 
-// A grid of zeros, by a function of its own, so that proofs carry a name in place of every entry.
-pub fn blank_grid() -> [u16; GRID]
-    ensures { result ≡ table (max_strains * max_strains) (λ _. 0) }
-{
-    [0; GRID]
-}
-
-// A table of names of zeros, likewise.
-pub fn blank_names() -> [u8; MAX_NAMES]
-    ensures { result ≡ table (name_size * max_strains) (λ _. 0) }
-{
-    [0; MAX_NAMES]
-}
-
 // 15: whether there is room for other than the distances and the name bytes of n strains.
 fn room_out(n: usize, distances: usize, names: usize) -> bool
     requires { n ≤ max_strains }
@@ -46,25 +32,19 @@ fn room_out(n: usize, distances: usize, names: usize) -> bool
 pub fn read(text: &[u8], distances: &mut [u16], names: &mut [u8]) -> Verdict
     ensures { ReadAnswer text.now distances.old distances.new names.old names.new result }
 {
-    let mut grid = blank_grid();
-    let mut held = blank_names();
-    let found = phylip_survey::survey_text(text, &mut grid, &mut held);
-    let n = found.strains;
-    let room = refusing::test(Reason::Buffer, room_out(n, distances.len(), names.len()));
-    let judged = found.verdict;
-    let answer = verdict::or_else(judged, room);
-    if let Verdict::Refused(refusal) = answer {
-        return Verdict::Refused(refusal);
-    }
+    let mut grid: [u16; GRID] = arrays::filled(0);
+    let mut held: [u8; MAX_NAMES] = arrays::filled(0);
+    let n = phylip_survey::survey_text(text, &mut grid, &mut held)?;
+    refusing::test(Reason::Buffer, room_out(n, distances.len(), names.len()))?;
     phylip_grid::take_distances(&grid, n, distances);
     let count = names.len();
-    writing::put_word(names, 0, &held[..count]);
-    Verdict::Accepted
+    names.copy_from_slice(&held[..count]);
+    Ok(())
 }
 
 // The same as a number, 0 where both buffers are filled. The crate phylip_read_c exports it to C.
 pub fn phylip_read(text: &[u8], distances: &mut [u16], names: &mut [u8]) -> u32
     ensures { NumberAnswer text.now distances.old distances.new names.old names.new result }
 {
-    verdict::number(read(text, distances, names))
+    verdict::number(&read(text, distances, names))
 }

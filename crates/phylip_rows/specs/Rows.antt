@@ -1,6 +1,6 @@
 -- What is read of a name, of a row and of all rows of a text; `l` below is the text that is left where it begins. The grid has the
 -- entries of row i from 64·i on, the table of names has the name of strain i from 10·i on.
-use Rattle.std.specs.Prelude.{◌≡◌, Bool, false, List, ℕ, ◌+◌, ◌*◌, ◌≤◌, ◌<◌, length, get_or, drop}
+use Rattle.std.specs.Prelude.{◌≡◌, Bool, false, List, ℕ, ◌+◌, ◌*◌, ◌≤◌, ◌<◌, length, get_or, drop, Option, is_none, IfSome}
 use Rattle.verdict.specs.Table.{some}
 use Rattle.matrix.specs.Limits.{max_strains}
 use Rattle.cells.specs.Cell.{cell_out, cell_entry}
@@ -23,14 +23,14 @@ pub record Row (s : List ℕ) (at n i : ℕ) (grid names : List ℕ) (r : RowRea
   pub entries : (j : ℕ) → j < n → get_or grid (max_strains * i + j) 0 ≡ cell_entry (cell_text (cells_of (drop at s)) j)
   pub name : (k : ℕ) → k < name_size → get_or names (name_size * i + k) 0 ≡ get_or (drop at s) k 0
 
--- of row i, whether of the form or not; nothing of the rows before it changes
-pub record RowIs (s : List ℕ) (at n i : ℕ) (grid grid' names names' : List ℕ) (r : RowRead) : Type 0 where
-  pub bad-is : r.bad ≡ row_bad n (drop at s)
+-- of row i, none where it is not of the form; nothing of the rows before it changes
+pub record RowIs (s : List ℕ) (at n i : ℕ) (grid grid' names names' : List ℕ) (r : Option RowRead) : Type 0 where
+  pub bad-is : is_none r ≡ row_bad n (drop at s)
   pub grid_size : length grid' ≡ length grid
   pub names-size : length names' ≡ length names
   pub grid_kept : (k : ℕ) → k < max_strains * i → get_or grid' k 0 ≡ get_or grid k 0
   pub names-kept : (k : ℕ) → k < name_size * i → get_or names' k 0 ≡ get_or names k 0
-  pub row : r.bad ≡ false → Row s at n i grid' names' r
+  pub row : IfSome r (λ x. Row s at n i grid' names' x)
 
 -- of rows of the form: whether a decimal is out, each entry, and each name
 pub record Rows (l : List ℕ) (n : ℕ) (grid names : List ℕ) (out : Bool) : Type 0 where
@@ -38,9 +38,9 @@ pub record Rows (l : List ℕ) (n : ℕ) (grid names : List ℕ) (out : Bool) : 
   pub entries : (i j : ℕ) → i < n → j < n → get_or grid (max_strains * i + j) 0 ≡ entry_at n l i j
   pub named : (i k : ℕ) → i < n → k < name_size → get_or names (name_size * i + k) 0 ≡ get_or (row_text n l i) k 0
 
--- of all rows, whether of the form or not
-pub record RowsRead (s : List ℕ) (at n : ℕ) (grid grid' names names' : List ℕ) (r : RowRead) : Type 0 where
-  pub bad-is : r.bad ≡ rows_bad n (drop at s)
+-- of all rows, none where they are not of the form
+pub record RowsRead (s : List ℕ) (at n : ℕ) (grid grid' names names' : List ℕ) (r : Option Bool) : Type 0 where
+  pub bad-is : is_none r ≡ rows_bad n (drop at s)
   pub grid_size : length grid' ≡ length grid
   pub names-size : length names' ≡ length names
-  pub rows : r.bad ≡ false → Rows (drop at s) n grid' names' r.out
+  pub rows : IfSome r (λ out. Rows (drop at s) n grid' names' out)

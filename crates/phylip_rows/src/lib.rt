@@ -28,61 +28,50 @@ fn name(text: &[u8], at: usize, base: usize, names: &mut [u8]) -> bool
     requires { (at ≤ length text.now) × (base + name_size ≤ length names.old) }
     ensures { NameRead text.now at base names.old names.new result }
 {
-    let mut k = 0;
-    while k < NAME {
+    for k in 0..NAME {
         let byte = digits::byte_at(text, at + k);
         if name_out(byte) {
             return true;
         }
         names[base + k] = byte;
-        k += 1;
     }
     false
 }
 
-// The row at a place, which is row i of n: its name, its cells, its end.
-fn row(text: &[u8], at: usize, n: usize, i: usize, grid: &mut [u16], names: &mut [u8]) -> RowRead
+// The row at a place, which is row i of n: its name, its cells, its end; none where it is not of the form.
+fn row(
+    text: &[u8],
+    at: usize,
+    n: usize,
+    i: usize,
+    grid: &mut [u16],
+    names: &mut [u8],
+) -> Option<RowRead>
     requires { (at ≤ length text.now) × (n ≤ max_strains) × (max_strains * i + n ≤ length grid.old) × (name_size * i + name_size ≤ length names.old) }
     ensures { RowIs text.now at n i grid.old grid.new names.old names.new result }
 {
     if name(text, at, NAME * i, names) {
-        return cells::bad_row();
+        return None;
     }
-    let read = cells::cells(text, at + NAME, n, Matrix::MAX_STRAINS * i, grid);
-    if read.bad {
-        return cells::bad_row();
-    }
-    let ended = phylip_lines::line_end(text, read.end);
-    if ended.bad {
-        return cells::bad_row();
-    }
-    RowRead {
-        bad: false,
-        end: ended.next,
-        out: read.out,
-    }
+    let read = cells::cells(text, at + NAME, n, Matrix::MAX_STRAINS * i, grid)?;
+    let end = phylip_lines::line_end(text, read.end)?;
+    Some(RowRead { end, out: read.out })
 }
 
-// The n rows at a place: whether they are not of the form, or something follows them; and where they are, whether a decimal is out.
-pub fn rows(text: &[u8], at: usize, n: usize, grid: &mut [u16], names: &mut [u8]) -> RowRead
+// The n rows at a place: whether a decimal is out; none where they are not of the form, or something follows them.
+pub fn rows(text: &[u8], at: usize, n: usize, grid: &mut [u16], names: &mut [u8]) -> Option<bool>
     requires { (at ≤ length text.now) × (n ≤ max_strains) × (max_strains * n ≤ length grid.old) × (name_size * n ≤ length names.old) }
     ensures { RowsRead text.now at n grid.old grid.new names.old names.new result }
 {
     let mut end = at;
     let mut out = false;
-    let mut i = 0;
-    while i < n {
-        let read = row(text, end, n, i, grid, names);
-        if read.bad {
-            return cells::bad_row();
-        }
-        out = cells::either(out, read.out);
+    for i in 0..n {
+        let read = row(text, end, n, i, grid, names)?;
+        out |= read.out;
         end = read.end;
-        i += 1;
     }
-    RowRead {
-        bad: end != text.len(),
-        end,
-        out,
+    if end != text.len() {
+        return None;
     }
+    Some(out)
 }

@@ -5,39 +5,32 @@ use mathlib.Core.List.{List}
 use Prim.Native.Nat.{ℕ}
 use lib.Signed.{clash_ℤ}
 use denote.Ref.{Bor}
-use Rattle.verdict.specs.Answer.{refusal_of}
-use Rattle.verdict.specs.declared.Refusal.{Refusal}
-use Rattle.verdict.specs.declared.Verdict.TheVariants as verdict
-use Rattle.sheet.proofs.Laws.{same_answer, not_pass}
-use Rattle.planner.specs.Compared.{Chosen}
+use Rattle.std.specs.Prelude.{Ok, Err}
+use Rattle.verdict.proofs.Answers.{same_refusal, not_pass}
+use Rattle.planner.specs.Compared.{Choice, Chosen}
 use Rattle.planner.specs.Part.{Part, Handed, won_by, Shorter}
-use Rattle.planner.specs.declared.Choice.{Choice}
-use Rattle.planner.specs.declared.Choice.TheVariants.{Refused, First, Second}
-
--- a refusal is known by its answer
-one-refusal : (q r : Refusal) → refusal_of q ≡ refusal_of r → q ≡ r
-one-refusal q r e = let v : verdict.Refused q ≡ verdict.Refused r = same_answer (verdict.Refused q) (verdict.Refused r) e in cc
+use Rattle.planner.specs.declared.Winner.TheVariants.{First, Second}
 
 module _ (s t : List ℕ) where
   pub one_choice : (x y : Choice) → Chosen s t x → Chosen s t y → x ≡ y
-  one_choice (Refused q) (Refused r) h k = ap Refused (one-refusal q r (h ∙ sym k))
-  one_choice (Refused q) First h k = absurd (not_pass q (h ∙ k.0))
-  one_choice (Refused q) Second h k = absurd (not_pass q (h ∙ k.0))
-  one_choice First (Refused r) h k = absurd (not_pass r (k ∙ h.0))
-  one_choice Second (Refused r) h k = absurd (not_pass r (k ∙ h.0))
-  one_choice First First h k = refl
-  one_choice Second Second h k = refl
-  one_choice First Second h k = clash_ℤ k.1 h.1
-  one_choice Second First h k = clash_ℤ h.1 k.1
+  one_choice (Err q) (Err r) h k = ap Err (same_refusal q r (h ∙ sym k))
+  one_choice (Err q) (Ok First) h k = absurd (not_pass q (h ∙ k.0))
+  one_choice (Err q) (Ok Second) h k = absurd (not_pass q (h ∙ k.0))
+  one_choice (Ok First) (Err r) h k = absurd (not_pass r (k ∙ h.0))
+  one_choice (Ok Second) (Err r) h k = absurd (not_pass r (k ∙ h.0))
+  one_choice (Ok First) (Ok First) h k = refl
+  one_choice (Ok Second) (Ok Second) h k = refl
+  one_choice (Ok First) (Ok Second) h k = clash_ℤ k.1 h.1
+  one_choice (Ok Second) (Ok First) h k = clash_ℤ h.1 k.1
 
 one-part : (s r u : Bor (List ℕ)) (from to : ℕ) → Part s r from to → Part s u from to → (r.ref_ptr ≡ u.ref_ptr) × (r.now ≡ u.now)
 one-part s r u from to x y =
     (ap₂ (λ (b o : ℕ). (b, o)) (x.block ∙ sym y.block) (x.start ∙ sym y.start), x.bytes ∙ sym y.bytes)
 
 one-handed : (x : Choice) (s t r u : Bor (List ℕ)) → Handed x s t r → Handed x s t u → (r.ref_ptr ≡ u.ref_ptr) × (r.now ≡ u.now)
-one-handed (Refused q) s t r u h k = one-part s r u 0 0 h k
-one-handed First s t r u h k = one-part s r u _ _ h k
-one-handed Second s t r u h k = one-part t r u _ _ h k
+one-handed (Err q) s t r u h k = one-part s r u 0 0 h k
+one-handed (Ok First) s t r u h k = one-part s r u _ _ h k
+one-handed (Ok Second) s t r u h k = one-part t r u _ _ h k
 
 -- two answers that `shorter` may give are one
 pub record OneResult (won also : ℕ) (r u : Bor (List ℕ)) : Type 0 where

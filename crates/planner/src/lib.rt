@@ -9,59 +9,51 @@ ghost use Rattle.reading.specs.Tests.{sheet_tests};
 ghost use Rattle.planner.specs.Compared.{Chosen};
 ghost use Rattle.planner.specs.Part.{Part, Handed, Shorter};
 
-use verdict::{Place, Reason, Refusal, Rule, Verdict};
+use verdict::{Place, Reason, Refusal, Rule};
 
-// Which of two sheets has the shorter tree, or why they are not compared.
+// Which of two sheets has the shorter tree.
 #[derive(Clone, Copy)]
-pub enum Choice {
-    Refused(Refusal),
+pub enum Winner {
     First,
     Second,
 }
 
 // The sheet of the shorter tree, the first on a tie; the first sheet's refusal, then the second's, then 27.
-pub fn choose(s: &[u8], t: &[u8]) -> Choice
+pub fn choose(s: &[u8], t: &[u8]) -> Result<Winner, Refusal>
     ensures { Chosen s.now t.now result }
 {
-    let a = comparison::tree_length(s);
-    let of_first = a.verdict;
-    if let Verdict::Refused(refusal) = of_first {
-        return Choice::Refused(refusal);
-    }
-    let b = comparison::tree_length(t);
-    let of_second = b.verdict;
-    if let Verdict::Refused(refusal) = of_second {
-        return Choice::Refused(refusal);
-    }
+    let a = comparison::tree_length(s)?;
+    let b = comparison::tree_length(t)?;
     if !comparison::same_matrix(s, t) {
-        return Choice::Refused(Refusal {
+        return Err(Refusal {
             reason: Reason::Matrices,
             place: Place::Nowhere,
         });
     }
     if comparison::less(b.numerator, b.denominator, a.numerator, a.denominator) {
-        return Choice::Second;
+        return Ok(Winner::Second);
     }
-    Choice::First
+    Ok(Winner::First)
 }
 
-// The third record of an accepted sheet, head included, where it lies.
+// The third record of an accepted sheet, head included, where it lies; of a sheet without its form the whole of it.
 fn third(s: &[u8]) -> &[u8]
     ensures { sheet_tests Rule.Plain s.now ≡ pass → Part s.entry result (start_of s.now 2) (length s.now) }
 {
-    let laid = records::records(s, 3);
-    let at = laid.starts[2];
-    &s[at..]
+    match records::records(s, 3) {
+        Ok(laid) => &s[laid.starts[2]..],
+        Err(_) => s,
+    }
 }
 
 // The third record of the sheet that was chosen, where it lies; an empty part where the choice is a refusal.
-pub fn record_of<'a>(s: &'a [u8], t: &'a [u8], choice: Choice) -> &'a [u8]
+pub fn record_of<'a>(s: &'a [u8], t: &'a [u8], choice: Result<Winner, Refusal>) -> &'a [u8]
     ensures { Chosen s.now t.now choice → Handed choice s.entry t.entry result }
 {
     match choice {
-        Choice::Refused(_) => &s[0..0],
-        Choice::First => third(s),
-        Choice::Second => third(t),
+        Err(_) => &s[0..0],
+        Ok(Winner::First) => third(s),
+        Ok(Winner::Second) => third(t),
     }
 }
 
@@ -72,11 +64,11 @@ pub fn shorter<'a>(s: &'a [u8], t: &'a [u8], won: &mut u32) -> &'a [u8]
 {
     let choice = choose(s, t);
     match choice {
-        Choice::Refused(_) => {}
-        Choice::First => {
+        Err(_) => {}
+        Ok(Winner::First) => {
             *won = 0;
         }
-        Choice::Second => {
+        Ok(Winner::Second) => {
             *won = 1;
         }
     }

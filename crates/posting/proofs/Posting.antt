@@ -1,4 +1,4 @@
--- The tests of a matrix with a tree in order, where v answers those of each by itself.
+-- The tests of a matrix with a tree in order, by the answers to each by itself.
 use mathlib.Core.Path.{◌≡◌, sym, ◌∙◌, ap}
 use mathlib.Core.Bool.{false}
 use mathlib.Core.List.{List}
@@ -8,14 +8,10 @@ use lib.ListN.{length}
 use Rattle.verdict.specs.Answer.{Answer, pass, fault, answer_of, refusal_of, at_first, ◌or_else◌}
 use Rattle.verdict.specs.Table.{first}
 use Rattle.verdict.specs.declared.Place.TheVariants.{Edge}
-use Rattle.verdict.specs.declared.Refusal.{Refusal}
-use Rattle.verdict.specs.declared.Verdict.{Verdict}
-use Rattle.verdict.specs.declared.Verdict.TheVariants.{Accepted, Refused}
-use Rattle.verdict.proofs.Answers.{refused-row, accepted-row, at_first_lem}
+use Rattle.verdict.proofs.Answers.{pass_or_else, at_first_lem}
 use Rattle.matrix.specs.Place.{some_missing}
-use Rattle.matrix.specs.declared.Survey.{Survey}
-use Rattle.matrix.specs.Surveys.{Surveyed}
-use Rattle.matrix.proofs.Checked.{proper→}
+use Rattle.matrix.specs.Tests.{matrix_tests}
+use Rattle.tree_theory.specs.Tests.{tree_tests}
 use Rattle.fit_theory.specs.Stands.{Shaped}
 use Rattle.fit_theory.specs.Tests.{shape_tests, unseen, seen_tests, posted_tests}
 use Rattle.fit_theory.proofs.Exactly.{→shaped, posted→}
@@ -29,16 +25,10 @@ module _ (N : ℕ) (ds ps : List ℕ) (v : ℕ) (e : v ≡ first (length ps) (un
   pub none : length ps ≤ v → pass ≡ seen_tests N ds ps
   none l = rw (sym e, le-ltb v (length ps) l)
 
-module _ (N : ℕ) (ds ps : List ℕ) (v : Verdict) (asked : answer_of v ≡ shape_tests N ds ps) where
-  pub refused : (k : Refusal) → v ≡ Refused k → refusal_of k ≡ posted_tests N ds ps
-  refused k q = refused-row k v (shape_tests N ds ps) (seen_tests N ds ps) q asked
+-- ---- the matrix and the tree that pass, each by itself
+module _ (N : ℕ) (ds ps : List ℕ) (e : pass ≡ matrix_tests N ds) (f : pass ≡ tree_tests N ps) where
+  pub shaped : Shaped N ds ps
+  shaped = →shaped N ds ps (pass_or_else (sym e) (sym f))
 
-  module _ (q : v ≡ Accepted) where
-    pub shaped : Shaped N ds ps
-    shaped = →shaped N ds ps (sym asked ∙ ap answer_of q)
-
-    pub complete : (r : Survey) → Surveyed N ds r → r.missing ≡ false → pass ≡ posted_tests N ds ps
-    complete r s e = sym (posted→ N ds ps (complete-posted N ds ps shaped (sym (s.some-missing (proper→ N ds shaped.matrix)) ∙ e)))
-
-    pub behind : (w : Verdict) → answer_of w ≡ seen_tests N ds ps → answer_of w ≡ posted_tests N ds ps
-    behind w e = e ∙ accepted-row v (shape_tests N ds ps) (seen_tests N ds ps) q asked
+  pub complete : some_missing ds ≡ false → pass ≡ posted_tests N ds ps
+  complete z = sym (posted→ N ds ps (complete-posted N ds ps shaped z))

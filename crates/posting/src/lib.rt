@@ -12,9 +12,7 @@ use verdict::{Place, Reason, Refusal, Verdict};
 pub fn check_shapes(n: u32, distances: &[u16], parents: &[u8]) -> Verdict
     ensures { answer_of result ≡ shape_tests n distances.now parents.now }
 {
-    let of_matrix = matrix::check_matrix(n, distances);
-    let of_tree = tree::check_tree(n, parents);
-    verdict::or_else(of_matrix, of_tree)
+    matrix::check_matrix(n, distances).and(tree::check_tree(n, parents))
 }
 
 // 26: the first edge that parts no measured pair.
@@ -24,12 +22,12 @@ fn check_seen(n: u32, distances: &[u16], parents: &[u8]) -> Verdict
 {
     let edge = gaps::first_unseen(n as usize, distances, parents);
     if edge < parents.len() {
-        return Verdict::Refused(Refusal {
+        return Err(Refusal {
             reason: Reason::Unmeasured,
             place: Place::Edge(edge),
         });
     }
-    Verdict::Accepted
+    Ok(())
 }
 
 // Both together: 4, 6 to 10, 16, 26, the first that applies. Where no pair is missing every edge parts a measured one, and
@@ -37,15 +35,10 @@ fn check_seen(n: u32, distances: &[u16], parents: &[u8]) -> Verdict
 pub fn check_posting(n: u32, distances: &[u16], parents: &[u8]) -> Verdict
     ensures { answer_of result ≡ posted_tests n distances.now parents.now }
 {
-    let surveyed = matrix::survey_matrix(n, distances);
-    let of_matrix = surveyed.verdict;
-    let of_tree = tree::check_tree(n, parents);
-    let shaped = verdict::or_else(of_matrix, of_tree);
-    if let Verdict::Refused(refusal) = shaped {
-        return Verdict::Refused(refusal);
-    }
-    if surveyed.missing {
+    let missing = matrix::survey_matrix(n, distances)?;
+    tree::check_tree(n, parents)?;
+    if missing {
         return check_seen(n, distances, parents);
     }
-    Verdict::Accepted
+    Ok(())
 }

@@ -6,19 +6,19 @@ use Prim.Native.Nat.{ℕ, ◌≤◌}
 use native.Mathlib.Omega.{arith}
 use lib.ListN.{take}
 use Rattle.writing.specs.Text.{Wrote}
-use Rattle.streams.specs.declared.Taken.{Taken}
+use Rattle.std.specs.Prelude.{Result, Ok, Err}
 use Rattle.pages.specs.Texts.{Shown}
 use Rattle.programs.specs.declared.Print.{Print}
 use Rattle.programs.specs.Answers.{print_of, answer_text}
 
-pub nothing : (print : Print) (taken : Taken) (space text : List ℕ) → taken.whole ≡ false → Shown (answer_text print taken space) text text 0
+pub nothing : (print : Print) (taken : Result ℕ ℕ) (before : ℕ) (space text : List ℕ) → taken ≡ Err before → Shown (answer_text print taken space) text text 0
 unfolding answer_text
-nothing print taken space text failed =
-    subst⁻¹ (λ (b : Bool). Shown (cond b (print_of print (take taken.count space)) []) text text 0) failed
+nothing print taken before space text failed =
+    subst⁻¹ (λ (t : Result ℕ ℕ). Shown (answer_text print t space) text text 0) failed
     (record { written = λ _. record { place = refl; buffer = refl }; short = λ _. (refl, refl); within = omega arith })
 
-pub printed : (print asked : Print) (taken : Taken) (space before after : List ℕ) (next : ℕ) → taken.whole ≡ true → print ≡ asked → Shown (print_of asked (take taken.count space)) before after next → Shown (answer_text print taken space) before after next
+pub printed : (print asked : Print) (taken : Result ℕ ℕ) (count : ℕ) (space before after : List ℕ) (next : ℕ) → taken ≡ Ok count → print ≡ asked → Shown (print_of asked (take count space)) before after next → Shown (answer_text print taken space) before after next
 unfolding answer_text
-printed print asked taken space before after next whole is shown =
-    subst⁻¹ (λ (b : Bool). Shown (cond b (print_of print (take taken.count space)) []) before after next) whole
-    (subst⁻¹ (λ (p : Print). Shown (print_of p (take taken.count space)) before after next) is shown)
+printed print asked taken count space before after next came is shown =
+    subst⁻¹ (λ (t : Result ℕ ℕ). Shown (answer_text print t space) before after next) came
+    (subst⁻¹ (λ (p : Print). Shown (print_of p (take count space)) before after next) is shown)

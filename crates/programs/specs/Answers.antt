@@ -1,7 +1,6 @@
 -- What a program answers to what was read.
-use Rattle.std.specs.Prelude.{cond, List, [], ℕ, take}
+use Rattle.std.specs.Prelude.{List, [], ℕ, take, Result, Ok, Err}
 use Rattle.verdict.specs.declared.Rule.TheVariants.{Plain, Drawable}
-use Rattle.streams.specs.declared.Taken.{Taken}
 use Rattle.pages.specs.Texts.{sheet_text, unfitted_text}
 use Rattle.programs.specs.declared.Print.{Print}
 use Rattle.programs.specs.declared.Print.TheVariants.{Report, Report0, Resolved}
@@ -13,5 +12,6 @@ print_of Report0 s = sheet_text Drawable s
 print_of Resolved s = unfitted_text s
 
 -- the print of the bytes that came, and nothing where a read failed
-unfoldable pub answer_text : Print → Taken → List ℕ → List ℕ
-answer_text print taken space = cond taken.whole (print_of print (take taken.count space)) []
+unfoldable pub answer_text : Print → Result ℕ ℕ → List ℕ → List ℕ
+answer_text print (Err before) space = []
+answer_text print (Ok count) space = print_of print (take count space)

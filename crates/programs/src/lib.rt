@@ -2,13 +2,12 @@
 #![tactic(auto)]
 
 ghost use Rattle.std.specs.Prelude.{◌≤◌, length};
+ghost use Rattle.streams.specs.Reads.{came_to};
 ghost use Rattle.pages.specs.Texts.{Shown};
 ghost use Rattle.programs.specs.Answers.{answer_text};
 
-use streams::Taken;
-
 // Which print is asked for, by the name of the program.
-#[derive(Clone, Copy)]
+#[derive(Clone, Copy, PartialEq, Eq)]
 pub enum Print {
     Report,
     Report0,
@@ -17,14 +16,13 @@ pub enum Print {
 
 // The text that is to go out, at the front of a page, and how many bytes it has: the print of what was read, or nothing
 // where a read failed.
-fn answer(print: Print, taken: Taken, space: &[u8], text: &mut [u8]) -> usize
-    requires { taken.count ≤ length space.now }
+fn answer(print: Print, taken: Result<usize, usize>, space: &[u8], text: &mut [u8]) -> usize
+    requires { came_to taken ≤ length space.now }
     ensures { Shown (answer_text print taken space.now) text.old text.new result }
 {
-    if !taken.whole {
+    let Ok(count) = taken else {
         return 0;
-    }
-    let count = taken.count;
+    };
     let sheet = &space[..count];
     match print {
         Print::Report => pages::sheet_print(sheet, text),
@@ -37,6 +35,6 @@ fn answer(print: Print, taken: Taken, space: &[u8], text: &mut [u8]) -> usize
 pub fn show(rt: &(impl Input + std::io::Print + Eprint), print: Print) {
     let mut space = streams::room();
     let taken = streams::take_in(rt, &mut space);
-    let mut text = pages::page();
+    let mut text: [u8; pages::PAGE] = arrays::filled(0);
     streams::put_out(rt, answer(print, taken, &space, &mut text), &text);
 }

@@ -9,9 +9,8 @@ use lib.IntN.{ℤ, pos}
 use Rattle.exact.specs.Table.{table_from, table, padded}
 use Rattle.verdict.specs.declared.Reason.TheVariants.{Edges}
 use Rattle.verdict.specs.declared.Place.TheVariants.{Nowhere}
-use Rattle.verdict.specs.declared.Verdict.TheVariants.{Accepted, Refused}
-use Rattle.verdict.specs.Answer.{pass, answer_of, test}
-use Rattle.verdict.proofs.Answers.{refuses}
+use Rattle.std.specs.Prelude.{Ok, Err}
+use Rattle.verdict.specs.Answer.{test}
 use Rattle.tree_theory.specs.Limits.{max_edges}
 use Rattle.endian.specs.Bytes.{number, twos}
 use Rattle.records.specs.Form.{start_of}
@@ -25,17 +24,12 @@ padded-none : (f : ℕ → ℤ) → padded (pos 0) max_edges 0 f ≡ table max_e
 unfolding table_from
 padded-none f = refl
 
-module _ (s : List ℕ) (ns : List ℤ) (x : Proposal) where
-  two_records : x.verdict ≡ Accepted → x.denominator ≡ 0 → x.edges ≡ 0 → ns ≡ table max_edges (λ _. pos 0) → Proposed 2 s ns x
-  two_records v d k n = record {
-    answer = ap answer_of v;
-    denominator = λ _. d;
-    edges = λ _. k;
-    numerators = λ _. n ∙ sym (padded-none (numerator_at s));
-  }
+module _ (s : List ℕ) (ns : List ℤ) where
+  two_records : ns ≡ table max_edges (λ _. pos 0) → Proposed 2 s ns (Ok (record { denominator = 0; edges = 0 }))
+  two_records n = record { answer = refl; held = record { denominator = refl; edges = refl; numerators = n ∙ sym (padded-none (numerator_at s)) } }
 
-  pub without-lengths : (count : ℕ) → count ≡ 2 → x.verdict ≡ Accepted → x.denominator ≡ 0 → x.edges ≡ 0 → ns ≡ table max_edges (λ _. pos 0) → Proposed count s ns x
-  without-lengths count e v d k n = rw e (two_records v d k n)
+  pub without-lengths : (count : ℕ) → count ≡ 2 → ns ≡ table max_edges (λ _. pos 0) → Proposed count s ns (Ok (record { denominator = 0; edges = 0 }))
+  without-lengths count e n = rw e (two_records n)
 
   module _ (at k edges : ℕ) (e : at ≡ start_of s 2) (f : k ≡ number 2 s (at + 6 + 4)) (g : edges ≡ vertices_of s - 1) where
     counted : k ≡ edges_of s
@@ -46,23 +40,18 @@ module _ (s : List ℕ) (ns : List ℤ) (x : Proposal) where
       asked : (b : Bool) → eqb (edges_of s) (vertices_of s - 1) ≡ b → test 11 (edges_differ count s) ≡ test 11 (not b)
       asked b q = ap₂ (λ (x y : Bool). test 11 (x && not y)) (lt-ltb 2 count three) q
 
-      pub other-count : (k ≡ edges → ⊥) → x.verdict ≡ Refused (record { reason = Edges; place = Nowhere }) → Proposed count s ns x
-      other-count h v =
-          let none : (answer_of x.verdict ≡ pass → ⊥) = λ z. refuses 11 Nowhere (sym (ap answer_of v) ∙ z) in
-          record {
-            answer = ap answer_of v ∙ sym (asked false (ne_eqb (edges_of s) (vertices_of s - 1) (λ q. h (counted ∙ q ∙ sym g))));
-            denominator = λ z. absurd (none z);
-            edges = λ z. absurd (none z);
-            numerators = λ z. absurd (none z);
-          }
+      pub other-count : (k ≡ edges → ⊥) → Proposed count s ns (Err (record { reason = Edges; place = Nowhere }))
+      other-count h = record { answer = sym (asked false (ne_eqb (edges_of s) (vertices_of s - 1) (λ q. h (counted ∙ q ∙ sym g)))); held = tt }
 
-      pub with_lengths : k ≡ edges → x.verdict ≡ Accepted → x.denominator ≡ number 4 s (at + 6) → x.edges ≡ edges
-          → ns ≡ padded (pos 0) max_edges edges (λ i. twos (number 8 s (at + 6 + 6 + 8 * i))) → Proposed count s ns x
-      with_lengths h v d m n =
+      pub with_lengths : k ≡ edges → (p : Proposal) → p.denominator ≡ number 4 s (at + 6) → p.edges ≡ edges
+          → ns ≡ padded (pos 0) max_edges edges (λ i. twos (number 8 s (at + 6 + 6 + 8 * i))) → Proposed count s ns (Ok p)
+      with_lengths h p d m n =
           let there : edges_in count s ≡ edges_of s = rw (lt-ltb 2 count three) in
           record {
-            answer = ap answer_of v ∙ sym (asked true (eq-eqb (edges_of s) (vertices_of s - 1) (sym counted ∙ h ∙ g)));
-            denominator = λ _. d ∙ ap (λ (a : ℕ). number 4 s (a + 6)) e ∙ rw (lt-ltb 2 count three);
-            edges = λ _. m ∙ sym h ∙ counted ∙ sym there;
-            numerators = λ _. n ∙ ap₂ (λ (c a : ℕ). padded (pos 0) max_edges c (λ i. twos (number 8 s (a + 6 + 6 + 8 * i)))) (sym h ∙ counted ∙ sym there) e;
+            answer = sym (asked true (eq-eqb (edges_of s) (vertices_of s - 1) (sym counted ∙ h ∙ g)));
+            held = record {
+              denominator = d ∙ ap (λ (a : ℕ). number 4 s (a + 6)) e ∙ rw (lt-ltb 2 count three);
+              edges = m ∙ sym h ∙ counted ∙ sym there;
+              numerators = n ∙ ap₂ (λ (c a : ℕ). padded (pos 0) max_edges c (λ i. twos (number 8 s (a + 6 + 6 + 8 * i)))) (sym h ∙ counted ∙ sym there) e;
+            };
           }

@@ -11,7 +11,7 @@ use lib.IntN.{ℤ, pos}
 use lib.ListN.{length, take, drop}
 use Rattle.exact.specs.Table.{table, padded}
 use Rattle.exact.proofs.Fill.{length-table}
-use Rattle.verdict.specs.declared.Verdict.TheVariants.{Accepted}
+use Rattle.std.specs.Prelude.{Ok}
 use Rattle.verdict.specs.Answer.{pass, answer_of, test, ◌or_else◌}
 use Rattle.verdict.proofs.Answers.{or_else_pass, test-pass}
 use Rattle.tree_theory.specs.Limits.{max_edges}
@@ -52,10 +52,10 @@ pub record Lengths (s : List ℕ) (r : Sheet) : Type 0 where
 
 -- what is front's of a sheet, beside the distances
 abbrev front_of : Sheet → Front
-front_of r = record { verdict = r.verdict; strains = r.strains; pairs = r.pairs; parents = r.parents; end = r.end }
+front_of r = record { strains = r.strains; pairs = r.pairs; parents = r.parents; end = r.end }
 
-pub accepted : (count : ℕ) (s : List ℕ) (r : Sheet) → SheetAnswer count s r → r.verdict ≡ Accepted → read_tests count s ≡ pass
-accepted count s r a e = sym a.answer ∙ ap answer_of e
+pub accepted : (count : ℕ) (s : List ℕ) (r : Sheet) → SheetAnswer count s (Ok r) → read_tests count s ≡ pass
+accepted count s r a = sym a.answer
 
 module _ (count : ℕ) (s : List ℕ) (z : read_tests count s ≡ pass) where
   behind-form : (pair_tests count s or_else test 11 (edges_differ count s)) ≡ pass
@@ -121,19 +121,19 @@ module _ (count : ℕ) (s : List ℕ) (three : 2 < count) (z : read_tests count 
   }
 
 -- ---- by the reader's answer
-pub read-parts : (count : ℕ) (s : List ℕ) (r : Sheet) → 2 ≤ count → SheetAnswer count s r → r.verdict ≡ Accepted → Parts s r
-read-parts count s r two a e = let z = accepted count s r a e in parts count s z two r (a.held z)
+pub read-parts : (count : ℕ) (s : List ℕ) (r : Sheet) → 2 ≤ count → SheetAnswer count s (Ok r) → Parts s r
+read-parts count s r two a = parts count s (accepted count s r a) two r a.held
 
 -- a sheet with lengths: its matrix and tree pass together
-pub read-posted : (count : ℕ) (s : List ℕ) (r : Sheet) → 2 < count → SheetAnswer count s r → r.verdict ≡ Accepted → Posted (strains_of s) (distances_of s) (parents_of s)
-read-posted count s r three a e = pair-posted count s three (pair-passes count s (accepted count s r a e))
+pub read-posted : (count : ℕ) (s : List ℕ) (r : Sheet) → 2 < count → SheetAnswer count s (Ok r) → Posted (strains_of s) (distances_of s) (parents_of s)
+read-posted count s r three a = pair-posted count s three (pair-passes count s (accepted count s r a))
 
-pub read-lengths : (count : ℕ) (s : List ℕ) (r : Sheet) → 2 < count → SheetAnswer count s r → r.verdict ≡ Accepted → Lengths s r
-read-lengths count s r three a e = let z = accepted count s r a e in lengths count s three z r (a.held z)
+pub read-lengths : (count : ℕ) (s : List ℕ) (r : Sheet) → 2 < count → SheetAnswer count s (Ok r) → Lengths s r
+read-lengths count s r three a = lengths count s three (accepted count s r a) r a.held
 
 -- an outline that was accepted, with its tables, is a sheet
-pub outline_sheet : (count : ℕ) (s ds : List ℕ) (ns : List ℤ) (r : Outline) → OutlineAnswer count s ds ns r → r.verdict ≡ Accepted → SheetAnswer count s (together r ds ns)
-outline_sheet count s ds ns r a e = record { answer = a.answer; held = a.held; blank = λ n. absurd (n (sym a.answer ∙ ap answer_of e)) }
+pub outline_sheet : (count : ℕ) (s ds : List ℕ) (ns : List ℤ) (r : Outline) → OutlineAnswer count s ds ns (Ok r) → SheetAnswer count s (Ok (together r ds ns))
+outline_sheet count s ds ns r a = record { answer = a.answer; held = a.held }
 
 -- ---- what is shown of the parts holds of what the records hold
 pub of_parts : {s : List ℕ} {r : Sheet} → Parts s r → (P : ℕ → List ℕ → List ℕ → Type 0)

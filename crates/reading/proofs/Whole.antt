@@ -12,8 +12,6 @@ use Rattle.exact.proofs.Decide.{by_cases}
 use Rattle.exact.proofs.Fill.{length-table}
 use Rattle.verdict.specs.declared.Place.TheVariants.{Nowhere, Edge}
 use Rattle.verdict.specs.declared.Refusal.{Refusal}
-use Rattle.verdict.specs.declared.Verdict.{Verdict}
-use Rattle.verdict.specs.declared.Verdict.TheVariants.{Refused}
 use Rattle.verdict.specs.Answer.{Answer, pass, fault, answer_of, refusal_of, test, at_first, ◌or_else◌}
 use Rattle.verdict.specs.declared.Rule.{Rule}
 use Rattle.verdict.proofs.Answers.{passes, or_else_pass, or_else_assoc, not_pass}
@@ -23,10 +21,8 @@ use Rattle.lengths.specs.Tests.{denominator_out, numerator_out, sign_tests}
 use Rattle.fit_theory.specs.Tests.{shape_tests, posted_tests, proposal_tests, sums_tests}
 use Rattle.records.specs.Form.{form_tests}
 use Rattle.records.proofs.InTurn.{stays}
-use Rattle.reading.specs.declared.Sheet.{Sheet}
 use Rattle.reading.specs.Holds.{strains_of, distances_of, vertices_of, parents_of, denominator_of, edges_of, numerators_of}
 use Rattle.reading.specs.Tests.{strains_differ, edges_differ, both_tests, pair_tests, read_tests, held_tests, sheet_tests}
-use Rattle.reading.specs.Reads.{SheetAnswer}
 
 -- the answer where the matrix and the tree pass on to a further test
 abbrev pub further_tests : ℕ → List ℕ → Answer → Answer
@@ -114,10 +110,8 @@ module _ (count : ℕ) (three : 2 < count) (rule : Rule) (s : List ℕ) where
     pub held-asked : read_tests count s ≡ pass → held_tests rule s ≡ proposal
     held-asked z = behind-form ∙ lengths-asked z
 
-    pub held-refused : (r : Sheet) (q : Refusal) → SheetAnswer count s r → r.verdict ≡ Refused q → refusal_of q ≡ held_tests rule s
-    held-refused r q a e =
-        let told : refusal_of q ≡ read_tests count s = sym (ap answer_of e) ∙ a.answer in
-        told ∙ sym (behind-form ∙ lengths-refused (λ z. not_pass q (told ∙ z)))
+    pub held-refused : (q : Refusal) → refusal_of q ≡ read_tests count s → refusal_of q ≡ held_tests rule s
+    held-refused q told = told ∙ sym (behind-form ∙ lengths-refused (λ z. not_pass q (told ∙ z)))
 
 pub sheet-asked : (rule : Rule) (s : List ℕ) → read_tests 3 s ≡ pass
     → sheet_tests rule s ≡ proposal_tests rule (strains_of s) (distances_of s) (parents_of s) (denominator_of s) (numerators_of s)
@@ -127,12 +121,8 @@ pub sheet-refused : (rule : Rule) (s : List ℕ) → (read_tests 3 s ≡ pass �
 sheet-refused rule s n = lengths-refused 3 (omega arith) rule s n
 
 -- ---- by the reader's answer: a refusal is the whole answer
-pub refused-whole : (rule : Rule) (s : List ℕ) (v : Verdict) (q : Refusal) → answer_of v ≡ read_tests 3 s → v ≡ Refused q → refusal_of q ≡ sheet_tests rule s
-refused-whole rule s v q a e =
-    let told : refusal_of q ≡ read_tests 3 s = sym (ap answer_of e) ∙ a in
-    told ∙ sym (sheet-refused rule s (λ z. not_pass q (told ∙ z)))
+pub refused-whole : (rule : Rule) (s : List ℕ) (q : Refusal) → refusal_of q ≡ read_tests 3 s → refusal_of q ≡ sheet_tests rule s
+refused-whole rule s q told = told ∙ sym (sheet-refused rule s (λ z. not_pass q (told ∙ z)))
 
-pub refused-two : (s : List ℕ) (r : Sheet) (q : Refusal) (x : Answer) → SheetAnswer 2 s r → r.verdict ≡ Refused q → refusal_of q ≡ further_tests 2 s x
-refused-two s r q x a e =
-    let told : refusal_of q ≡ read_tests 2 s = sym (ap answer_of e) ∙ a.answer in
-    told ∙ sym (two-refused s (λ z. not_pass q (told ∙ z)) x)
+pub refused-two : (s : List ℕ) (q : Refusal) (x : Answer) → refusal_of q ≡ read_tests 2 s → refusal_of q ≡ further_tests 2 s x
+refused-two s q x told = told ∙ sym (two-refused s (λ z. not_pass q (told ∙ z)) x)

@@ -1,7 +1,8 @@
--- What the reader of a sheet hands over: its answer, and, where that passes, what the records hold; zeros where it does not.
-use Rattle.std.specs.Prelude.{◌≡◌, List, ℕ, ℤ, pos}
-use Rattle.exact.specs.Table.{table, padded}
-use Rattle.verdict.specs.Answer.{pass, answer_of, test}
+-- What the reader of a sheet hands over: its answer, and, where that passes, what the records hold.
+use Rattle.std.specs.Prelude.{◌≡◌, List, ℕ, ℤ, pos, Result, IfOk}
+use Rattle.exact.specs.Table.{padded}
+use Rattle.verdict.specs.Answer.{answer_of, test}
+use Rattle.verdict.specs.declared.Refusal.{Refusal}
 use Rattle.matrix.specs.Limits.{max_pairs}
 use Rattle.matrix.specs.Place.{pair_count}
 use Rattle.tree_theory.specs.Limits.{max_edges}
@@ -13,11 +14,14 @@ use Rattle.reading.specs.Holds.{strains_of, distance_at, parents_at, denominator
 use Rattle.reading.specs.Tests.{edges_differ, read_tests}
 
 -- the lengths of a sheet of so many records, or none where it has two: D, K, and the numerators in a lent table, then zeros
-pub record Proposed (count : ℕ) (s : List ℕ) (ns : List ℤ) (r : Proposal) : Type 0 where
-  pub answer : answer_of r.verdict ≡ test 11 (edges_differ count s)
-  pub denominator : answer_of r.verdict ≡ pass → r.denominator ≡ denominator_in count s
-  pub edges : answer_of r.verdict ≡ pass → r.edges ≡ edges_in count s
-  pub numerators : answer_of r.verdict ≡ pass → ns ≡ padded (pos 0) max_edges (edges_in count s) (numerator_at s)
+pub record LengthsHeld (count : ℕ) (s : List ℕ) (ns : List ℤ) (p : Proposal) : Type 0 where
+  pub denominator : p.denominator ≡ denominator_in count s
+  pub edges : p.edges ≡ edges_in count s
+  pub numerators : ns ≡ padded (pos 0) max_edges (edges_in count s) (numerator_at s)
+
+pub record Proposed (count : ℕ) (s : List ℕ) (ns : List ℤ) (r : Result Proposal Refusal) : Type 0 where
+  pub answer : answer_of r ≡ test 11 (edges_differ count s)
+  pub held : IfOk r (λ p. LengthsHeld count s ns p)
 
 -- N and the distances, then zeros; where the parents start and end among the bytes; the lengths
 pub record Held (count : ℕ) (s : List ℕ) (r : Sheet) : Type 0 where
@@ -33,7 +37,6 @@ pub record Held (count : ℕ) (s : List ℕ) (r : Sheet) : Type 0 where
 -- an outline and the two tables together
 abbrev pub together : Outline → List ℕ → List ℤ → Sheet
 together r ds ns = record {
-  verdict = r.verdict;
   strains = r.strains;
   pairs = r.pairs;
   distances = ds;
@@ -44,34 +47,12 @@ together r ds ns = record {
   numerators = ns;
 }
 
--- zeros everywhere in an outline
-pub record Unread (r : Outline) : Type 0 where
-  pub strains : r.strains ≡ 0
-  pub pairs : r.pairs ≡ 0
-  pub parents : r.parents ≡ 0
-  pub end : r.end ≡ 0
-  pub denominator : r.denominator ≡ 0
-  pub edges : r.edges ≡ 0
-
--- the whole answer, and what the two lent tables are left with
-pub record OutlineAnswer (count : ℕ) (s ds : List ℕ) (ns : List ℤ) (r : Outline) : Type 0 where
-  pub answer : answer_of r.verdict ≡ read_tests count s
-  pub held : read_tests count s ≡ pass → Held count s (together r ds ns)
-  pub unread : (read_tests count s ≡ pass → ⊥) → Unread r
-
--- zeros everywhere
-pub record Blank (r : Sheet) : Type 0 where
-  pub strains : r.strains ≡ 0
-  pub pairs : r.pairs ≡ 0
-  pub distances : r.distances ≡ table max_pairs (λ _. 0)
-  pub parents : r.parents ≡ 0
-  pub end : r.end ≡ 0
-  pub denominator : r.denominator ≡ 0
-  pub edges : r.edges ≡ 0
-  pub numerators : r.numerators ≡ table max_edges (λ _. pos 0)
+-- the whole answer, and what the two lent tables are left with; of a refused sheet nothing is said of these
+pub record OutlineAnswer (count : ℕ) (s ds : List ℕ) (ns : List ℤ) (r : Result Outline Refusal) : Type 0 where
+  pub answer : answer_of r ≡ read_tests count s
+  pub held : IfOk r (λ o. Held count s (together o ds ns))
 
 -- the whole answer, with its tables
-pub record SheetAnswer (count : ℕ) (s : List ℕ) (r : Sheet) : Type 0 where
-  pub answer : answer_of r.verdict ≡ read_tests count s
-  pub held : read_tests count s ≡ pass → Held count s r
-  pub blank : (read_tests count s ≡ pass → ⊥) → Blank r
+pub record SheetAnswer (count : ℕ) (s : List ℕ) (r : Result Sheet Refusal) : Type 0 where
+  pub answer : answer_of r ≡ read_tests count s
+  pub held : IfOk r (λ x. Held count s x)

@@ -10,18 +10,17 @@ ghost use Rattle.matrix.specs.Limits.{max_pairs};
 ghost use Rattle.tree_theory.specs.Limits.{max_edges};
 ghost use Rattle.records.specs.Form.{max_records, start_of, form_tests};
 ghost use Rattle.reading.specs.Holds.{vertices_of};
-ghost use Rattle.reading.specs.Reads.{Proposed, Unread, OutlineAnswer, Blank, SheetAnswer};
+ghost use Rattle.reading.specs.Reads.{Proposed, OutlineAnswer, SheetAnswer};
 
 use matrix::Matrix;
 use records::Layout;
 use tree::Tree;
-use verdict::{Place, Reason, Refusal, Verdict};
+use verdict::{Place, Reason, Refusal};
 
 // What a sheet holds beside its two tables: N, and how many pairs there are; where the parents of its tree start and end among the
 // bytes; D and K. Without lengths D and K are 0.
 #[derive(Clone, Copy)]
 pub struct Outline {
-    pub verdict: Verdict,
     pub strains: u32,
     pub pairs: usize,
     pub parents: usize,
@@ -34,7 +33,6 @@ pub struct Outline {
 // bytes; D, K and the numerators, then zeros. Without lengths D and K are 0.
 #[derive(Clone, Copy)]
 pub struct Sheet {
-    pub verdict: Verdict,
     pub strains: u32,
     pub pairs: usize,
     pub distances: [u16; Matrix::MAX_PAIRS],
@@ -45,10 +43,9 @@ pub struct Sheet {
     pub numerators: [i64; Tree::MAX_EDGES],
 }
 
-// What the lengths of a sheet are beside their numerators, and the answer to their count.
+// What the lengths of a sheet are beside their numerators.
 #[derive(Clone, Copy)]
 struct Proposal {
-    verdict: Verdict,
     denominator: u32,
     edges: usize,
 }
@@ -61,51 +58,30 @@ fn proposed_lengths(
     at: usize,
     edges: usize,
     numerators: &mut [i64; Tree::MAX_EDGES],
-) -> Proposal
+) -> Result<Proposal, Refusal>
     requires le_count { (2 ≤ count) × (count ≤ max_records) × (form_tests count s.now ≡ pass) × (at ≡ start_of s.now 2) }
     requires edges_value { (edges ≡ vertices_of s.now - 1) × (edges ≤ max_edges) }
     requires numerators_value { numerators.old ≡ table max_edges (λ _. pos 0) }
     ensures { Proposed count s.now numerators.new result }
 {
     if count == 2 {
-        return Proposal {
-            verdict: Verdict::Accepted,
+        return Ok(Proposal {
             denominator: 0,
             edges: 0,
-        };
+        });
     }
     let body = at + Layout::HEAD;
     if endian::u16_at(s, body + 4) as usize != edges {
-        return Proposal {
-            verdict: Verdict::Refused(Refusal {
-                reason: Reason::Edges,
-                place: Place::Nowhere,
-            }),
-            denominator: 0,
-            edges: 0,
-        };
+        return Err(Refusal {
+            reason: Reason::Edges,
+            place: Place::Nowhere,
+        });
     }
     decoding::numerators_into(s, body + 6, edges, numerators);
-    Proposal {
-        verdict: Verdict::Accepted,
+    Ok(Proposal {
         denominator: endian::u32_at(s, body),
         edges,
-    }
-}
-
-// A refusal, with zeros everywhere.
-fn unread(refusal: Refusal) -> Outline
-    ensures { (result.verdict ≡ Verdict.Refused refusal) × Unread result }
-{
-    Outline {
-        verdict: Verdict::Refused(refusal),
-        strains: 0,
-        pairs: 0,
-        parents: 0,
-        end: 0,
-        denominator: 0,
-        edges: 0,
-    }
+    })
 }
 
 // What a sheet of the form holds: 6 to 11, 16, 26. Another count than the tree's edges is refused before a numerator is read.
@@ -116,31 +92,22 @@ fn held(
     end: usize,
     distances: &mut [u16; Matrix::MAX_PAIRS],
     numerators: &mut [i64; Tree::MAX_EDGES],
-) -> Outline
+) -> Result<Outline, Refusal>
     requires le_count { (2 ≤ count) × (count ≤ max_records) × (form_tests count s.now ≡ pass) × (tree ≡ start_of s.now 1) × (end ≡ start_of s.now 2) }
     requires distances_value { distances.old ≡ table max_pairs (λ _. 0) }
     requires numerators_value { numerators.old ≡ table max_edges (λ _. pos 0) }
     ensures { OutlineAnswer count s.now distances.new numerators.new result }
 {
-    let front = front::read_front(s, count, tree, end, distances);
-    let of_pair = front.verdict;
-    if let Verdict::Refused(refusal) = of_pair {
-        return unread(refusal);
-    }
-    let proposed = proposed_lengths(s, count, end, end - front.parents, numerators);
-    let of_lengths = proposed.verdict;
-    if let Verdict::Refused(refusal) = of_lengths {
-        return unread(refusal);
-    }
-    Outline {
-        verdict: Verdict::Accepted,
+    let front = front::read_front(s, count, tree, end, distances)?;
+    let proposed = proposed_lengths(s, count, end, end - front.parents, numerators)?;
+    Ok(Outline {
         strains: front.strains,
         pairs: front.pairs,
         parents: front.parents,
         end,
         denominator: proposed.denominator,
         edges: proposed.edges,
-    }
+    })
 }
 
 // What a sheet of so many records holds, three, without lengths two, or with names four: 1 to 11, 16, 26,
@@ -151,65 +118,39 @@ pub fn read_into(
     count: usize,
     distances: &mut [u16; Matrix::MAX_PAIRS],
     numerators: &mut [i64; Tree::MAX_EDGES],
-) -> Outline
+) -> Result<Outline, Refusal>
     requires le_count { (2 ≤ count) × (count ≤ max_records) }
     requires distances_value { distances.old ≡ table max_pairs (λ _. 0) }
     requires numerators_value { numerators.old ≡ table max_edges (λ _. pos 0) }
     ensures { OutlineAnswer count s.now distances.new numerators.new result }
 {
-    let laid = records::records(s, count);
-    let of_form = laid.verdict;
-    match of_form {
-        Verdict::Refused(refusal) => unread(refusal),
-        Verdict::Accepted => held(
-            s,
-            count,
-            laid.starts[1],
-            laid.starts[2],
-            distances,
-            numerators,
-        ),
-    }
+    let laid = records::records(s, count)?;
+    held(
+        s,
+        count,
+        laid.starts[1],
+        laid.starts[2],
+        distances,
+        numerators,
+    )
 }
 
-// A refusal, with zeros everywhere.
-fn refused(refusal: Refusal) -> Sheet
-    ensures { (result.verdict ≡ Verdict.Refused refusal) × Blank result }
-{
-    Sheet {
-        verdict: Verdict::Refused(refusal),
-        strains: 0,
-        pairs: 0,
-        distances: matrix::no_distances(),
-        parents: 0,
-        end: 0,
-        denominator: 0,
-        edges: 0,
-        numerators: tree::edge_zeros(),
-    }
-}
-
-// The same with its tables; zeros where it is refused.
-pub fn read(s: &[u8], count: usize) -> Sheet
+// The same with its tables.
+pub fn read(s: &[u8], count: usize) -> Result<Sheet, Refusal>
     requires { (2 ≤ count) × (count ≤ max_records) }
     ensures { SheetAnswer count s.now result }
 {
-    let mut distances = matrix::no_distances();
-    let mut numerators = tree::edge_zeros();
-    let outline = read_into(s, count, &mut distances, &mut numerators);
-    let found = outline.verdict;
-    match found {
-        Verdict::Refused(refusal) => refused(refusal),
-        Verdict::Accepted => Sheet {
-            verdict: Verdict::Accepted,
-            strains: outline.strains,
-            pairs: outline.pairs,
-            distances,
-            parents: outline.parents,
-            end: outline.end,
-            denominator: outline.denominator,
-            edges: outline.edges,
-            numerators,
-        },
-    }
+    let mut distances: [u16; Matrix::MAX_PAIRS] = arrays::filled(0);
+    let mut numerators: [i64; Tree::MAX_EDGES] = arrays::filled(0);
+    let outline = read_into(s, count, &mut distances, &mut numerators)?;
+    Ok(Sheet {
+        strains: outline.strains,
+        pairs: outline.pairs,
+        distances,
+        parents: outline.parents,
+        end: outline.end,
+        denominator: outline.denominator,
+        edges: outline.edges,
+        numerators,
+    })
 }

@@ -11,6 +11,7 @@ use lib.Dec.{eqb, ltb}
 use lib.ListN.{length, get_or}
 use Rattle.exact.proofs.Decide.{by_cases}
 use Rattle.exact.proofs.Fill.{get_or_table_const}
+use Rattle.std.specs.Prelude.{Ok}
 use Rattle.verdict.specs.declared.Place.TheVariants.{Byte}
 use Rattle.verdict.specs.Answer.{Answer, pass, test, test_at, ◌or_else◌}
 use Rattle.verdict.proofs.Answers.{or_else_pass, test-pass, test_at-pass, passes}
@@ -106,16 +107,13 @@ pub record RecordAt (count : ℕ) (s : List ℕ) (k at : ℕ) : Type 0 where
   pub kind : form_tests count s ≡ pass → kind_at s at ≡ kind_of k
   pub ends : form_tests count s ≡ pass → end_at s at ≡ start_of s (suc k)
 
-pub record-at : (count : ℕ) (s : List ℕ) (r : Layout) → LayoutAnswer count s r → (k : ℕ) → k < count → RecordAt count s k (get_or r.starts k 0)
-record-at count s r a k l = record {
-  within = by_cases (passes (form_tests count s)) (λ z. omega (arith, start z, next_start s k, record-ends count s z k l)) (λ n. omega (arith, none n));
-  start = start;
-  kind = λ z. ap (kind_at s) (start z) ∙ kind-due count s z k l;
-  ends = λ z. ap (end_at s) (start z) ∙ sym (next_start s k);
+pub record-at : (count : ℕ) (s : List ℕ) (r : Layout) → LayoutAnswer count s (Ok r) → (k : ℕ) → k < count → RecordAt count s k (get_or r.starts k 0)
+record-at count s r a k l = let z : form_tests count s ≡ pass = sym a.answer in record {
+  within = omega (arith, start, next_start s k, record-ends count s z k l);
+  start = λ _. start;
+  kind = λ z. ap (kind_at s) start ∙ kind-due count s z k l;
+  ends = λ z. ap (end_at s) start ∙ sym (next_start s k);
 }
   where
-    start : form_tests count s ≡ pass → get_or r.starts k 0 ≡ start_of s k
-    start z = ap (λ (x : List ℕ). get_or x k 0) (a.starts z) ∙ padded-before 0 max_starts (count + 1) (start_of s) k (omega arith)
-
-    none : (form_tests count s ≡ pass → ⊥) → get_or r.starts k 0 ≡ 0
-    none n = ap (λ (x : List ℕ). get_or x k 0) (a.none n) ∙ get_or_table_const max_starts 0 k
+    start : get_or r.starts k 0 ≡ start_of s k
+    start = ap (λ (x : List ℕ). get_or x k 0) a.starts ∙ padded-before 0 max_starts (count + 1) (start_of s) k (omega arith)

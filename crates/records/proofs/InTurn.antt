@@ -13,8 +13,8 @@ use Rattle.exact.specs.Table.{table}
 use Rattle.exact.proofs.Decide.{by_cases}
 use Rattle.verdict.specs.declared.Place.TheVariants.{Byte}
 use Rattle.verdict.specs.declared.Refusal.{Refusal}
-use Rattle.verdict.specs.declared.Verdict.{Verdict}
-use Rattle.verdict.specs.declared.Verdict.TheVariants.{Accepted, Refused}
+use Rattle.verdict.specs.Answer.{Verdict}
+use Rattle.std.specs.Prelude.{Ok, Err}
 use Rattle.verdict.specs.Answer.{Answer, pass, fault, answer_of, refusal_of, test_at, ◌or_else◌}
 use Rattle.verdict.proofs.Answers.{or_else_pass, test_at-pass, not_pass}
 use Rattle.records.specs.declared.Layout.{Layout}
@@ -141,27 +141,22 @@ module _ {s : List ℕ} {count k at : ℕ} {starts : List ℕ} (w : Past s count
     kept = decode_turn 0 max_starts (count + 1) (start_of s) k starts at (omega arith) (omega arith) w.place w.kept;
   }
 
-  pub turn-refused : (kind : ℕ) (v : Verdict) (r : Refusal) → kind ≡ kind_of k → answer_of v ≡ record_tests s at kind → v ≡ Refused r → k < count
+  pub turn-refused : (kind : ℕ) (v : Verdict) (r : Refusal) → kind ≡ kind_of k → answer_of v ≡ record_tests s at kind → v ≡ Err r → k < count
       → records_tests s count ≡ refusal_of r
   turn-refused kind v r e f g l =
       let told : records_tests s (suc k) ≡ refusal_of r = turn-answer kind e ∙ sym f ∙ ap answer_of g in
       refused-stays s (suc k) count (λ z. not_pass r (sym told ∙ z)) (omega arith) ∙ told
 
-  pub all_laid : count ≤ k → count ≤ max_records → (x : Layout) → x.verdict ≡ Accepted → x.starts ≡ set starts count at → Laid (records_tests s count) count s x
-  all_laid l m x e f =
+  pub all_laid : count ≤ k → count ≤ max_records → Laid (records_tests s count) count s (Ok (record { starts = set starts count at }))
+  all_laid l m =
       let all : k ≡ count = omega (arith, w.few) in
       let z : records_tests s count ≡ pass = ap (records_tests s) (sym all) ∙ w.passed in
       let d = decode_turn 0 max_starts (count + 1) (start_of s) k starts at (omega (arith, all)) (omega arith) w.place w.kept in
       record {
-        answer = ap answer_of e ∙ sym z;
-        starts = λ _. f ∙ ap (λ (i : ℕ). set starts i at) (sym all) ∙ decode_end 0 max_starts (count + 1) (start_of s) (k + 1) (set starts k at) (omega arith) (omega arith) d;
-        none = λ n. absurd (n z);
+        answer = sym z;
+        starts = ap (λ (i : ℕ). set starts i at) (sym all) ∙ decode_end 0 max_starts (count + 1) (start_of s) (k + 1) (set starts k at) (omega arith) (omega arith) d;
       }
 
 -- a refusal has no starts
-pub laid-refused : (a : Answer) (count : ℕ) (s : List ℕ) (x : Layout) (r : Refusal) → (x.verdict ≡ Refused r) × (x.starts ≡ table max_starts (λ _. 0)) → a ≡ refusal_of r → Laid a count s x
-laid-refused a count s x r e f = record {
-  answer = ap answer_of e.0 ∙ sym f;
-  starts = λ z. absurd (not_pass r (sym f ∙ z));
-  none = λ _. e.1;
-}
+pub laid-refused : (a : Answer) (count : ℕ) (s : List ℕ) (r : Refusal) → a ≡ refusal_of r → Laid a count s (Err r)
+laid-refused a count s r f = record { answer = sym f; starts = tt }

@@ -8,12 +8,11 @@ use native.Mathlib.Omega.{arith}
 use borrow.Author.Tests.{lt-ltb, le-ltb, ltb-false}
 use lib.Dec.{eqb, ltb}
 use lib.ListN.{length, get_or}
-use Rattle.exact.specs.Table.{table}
 use Rattle.exact.proofs.Decide.{by_cases}
 use Rattle.verdict.specs.declared.Reason.TheVariants.{SheetTooLong, WrongCounts, BytesLeft}
 use Rattle.verdict.specs.declared.Place.TheVariants.{Nowhere, Byte}
 use Rattle.verdict.specs.declared.Refusal.{Refusal}
-use Rattle.verdict.specs.declared.Verdict.TheVariants.{Refused}
+use Rattle.std.specs.Prelude.{Ok, Err}
 use Rattle.verdict.specs.Answer.{Answer, pass, fault, refusal_of, test_at, ◌or_else◌}
 use Rattle.verdict.proofs.Answers.{or_none}
 use Rattle.endian.specs.Bytes.{number}
@@ -53,43 +52,35 @@ module _ (count : ℕ) (s : List ℕ) where
     names-there z l = (rw (e l) (record-there s (start_of s 3) (kind_of 3) (each-passes s count z 3 l)), strains-there (omega arith) z)
 
   -- where a record starts, or the last one ends, by what was laid
-  pub laid-at : (x : Layout) → Laid (records_tests s count) count s x → records_tests s count ≡ pass → (k : ℕ) → k ≤ count → get_or x.starts k 0 ≡ start_of s k
-  laid-at x p z k l = ap (λ (y : List ℕ). get_or y k 0) (p.starts z) ∙ padded-before 0 max_starts (count + 1) (start_of s) k (omega arith)
+  pub laid-at : (t : Answer) (x : Layout) → Laid t count s (Ok x) → (k : ℕ) → k ≤ count → get_or x.starts k 0 ≡ start_of s k
+  laid-at t x p k l = ap (λ (y : List ℕ). get_or y k 0) p.starts ∙ padded-before 0 max_starts (count + 1) (start_of s) k (omega arith)
 
-  module _ (x : Layout) where
-    abbrev Refusing : Refusal → Type 0
-    Refusing r = (x.verdict ≡ Refused r) × (x.starts ≡ table max_starts (λ _. 0))
+  pub too_long : longest count < length s → LayoutAnswer count s (Err (record { reason = SheetTooLong; place = Nowhere }))
+  too_long h = laid-refused (form_tests count s) count s (record { reason = SheetTooLong; place = Nowhere }) (simp (lt-ltb (longest count) (length s) h))
 
-    pub too_long : longest count < length s → Refusing (record { reason = SheetTooLong; place = Nowhere }) → LayoutAnswer count s x
-    too_long h e = laid-refused (form_tests count s) count s x (record { reason = SheetTooLong; place = Nowhere }) e (simp (lt-ltb (longest count) (length s) h))
+  module _ (short : length s ≤ longest count) where
+    rest : form_tests count s ≡ (records_tests s count or_else differ or_else left)
+    rest = ap (λ (b : Bool). test_at 1 Nowhere b or_else records_tests s count or_else differ or_else left) (le-ltb (longest count) (length s) short)
 
-    module _ (short : length s ≤ longest count) where
-      rest : form_tests count s ≡ (records_tests s count or_else differ or_else left)
-      rest = ap (λ (b : Bool). test_at 1 Nowhere b or_else records_tests s count or_else differ or_else left) (le-ltb (longest count) (length s) short)
+    pub record-refused : (r : Refusal) → refusal_of r ≡ records_tests s count → LayoutAnswer count s (Err r)
+    record-refused r f = laid-refused (form_tests count s) count s r (rest ∙ ap (λ (z : Answer). z or_else differ or_else left) (sym f))
 
-      pub record-refused : (r : Refusal) → records_tests s count ≡ refusal_of r → Refusing r → LayoutAnswer count s x
-      record-refused r f e = laid-refused (form_tests count s) count s x r e (rest ∙ ap (λ (z : Answer). z or_else differ or_else left) f)
+    module _ (z : records_tests s count ≡ pass) where
+      past_records : form_tests count s ≡ (differ or_else left)
+      past_records = rest ∙ ap (λ (a : Answer). a or_else differ or_else left) z
 
-      module _ (z : records_tests s count ≡ pass) where
-        past_records : form_tests count s ≡ (differ or_else left)
-        past_records = rest ∙ ap (λ (a : Answer). a or_else differ or_else left) z
+      pub names-refused : (at : ℕ) → (3 < count → at ≡ start_of s 3) → names_differ count s ≡ true → LayoutAnswer count s (Err (record { reason = WrongCounts; place = Byte at }))
+      names-refused at e d = laid-refused (form_tests count s) count s (record { reason = WrongCounts; place = Byte at })
+          (past_records ∙ ap (λ (b : Bool). test_at 4 (Byte (start_of s 3)) b or_else left) d ∙ ap (λ (a : ℕ). fault 4 (Byte a)) (sym (differ-at at e d)))
 
-        pub names-refused : (at : ℕ) → (3 < count → at ≡ start_of s 3) → names_differ count s ≡ true → Refusing (record { reason = WrongCounts; place = Byte at }) → LayoutAnswer count s x
-        names-refused at e d f = laid-refused (form_tests count s) count s x (record { reason = WrongCounts; place = Byte at }) f
-            (past_records ∙ ap (λ (b : Bool). test_at 4 (Byte (start_of s 3)) b or_else left) d ∙ ap (λ (a : ℕ). fault 4 (Byte a)) (sym (differ-at at e d)))
+      module _ (d : names_differ count s ≡ false) (at : ℕ) (e : at ≡ start_of s count) where
+        by_end : (b : Bool) → ltb at (length s) ≡ b → form_tests count s ≡ test_at 5 (Byte at) b
+        by_end b f =
+            past_records ∙ ap (λ (c : Bool). test_at 4 (Byte (start_of s 3)) c or_else left) d
+            ∙ ap (λ (a : ℕ). test_at 5 (Byte a) (ltb a (length s))) (sym e) ∙ ap (test_at 5 (Byte at)) f
 
-        module _ (d : names_differ count s ≡ false) (at : ℕ) (e : at ≡ start_of s count) where
-          by_end : (b : Bool) → ltb at (length s) ≡ b → form_tests count s ≡ test_at 5 (Byte at) b
-          by_end b f =
-              past_records ∙ ap (λ (c : Bool). test_at 4 (Byte (start_of s 3)) c or_else left) d
-              ∙ ap (λ (a : ℕ). test_at 5 (Byte a) (ltb a (length s))) (sym e) ∙ ap (test_at 5 (Byte at)) f
+        pub bytes_left : at < length s → LayoutAnswer count s (Err (record { reason = BytesLeft; place = Byte at }))
+        bytes_left h = laid-refused (form_tests count s) count s (record { reason = BytesLeft; place = Byte at }) (by_end true (lt-ltb at (length s) h))
 
-          pub bytes_left : at < length s → Refusing (record { reason = BytesLeft; place = Byte at }) → LayoutAnswer count s x
-          bytes_left h f = laid-refused (form_tests count s) count s x (record { reason = BytesLeft; place = Byte at }) f (by_end true (lt-ltb at (length s) h))
-
-          pub all_read : length s ≤ at → Laid (records_tests s count) count s x → LayoutAnswer count s x
-          all_read h p = let f = by_end false (le-ltb at (length s) h) in record {
-            answer = p.answer ∙ z ∙ sym f;
-            starts = λ _. p.starts z;
-            none = λ n. absurd (n f);
-          }
+        pub all_read : length s ≤ at → (x : Layout) → Laid (records_tests s count) count s (Ok x) → LayoutAnswer count s (Ok x)
+        all_read h x p = record { answer = sym (by_end false (le-ltb at (length s) h)); starts = p.starts }

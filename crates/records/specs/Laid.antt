@@ -1,7 +1,8 @@
--- What the reader of records hands back: its answer, and, where that passes, where each record starts and where the last one ends.
-use Rattle.std.specs.Prelude.{◌≡◌, List, ℕ, ◌+◌}
-use Rattle.exact.specs.Table.{table, padded}
-use Rattle.verdict.specs.Answer.{Answer, pass, answer_of}
+-- What the reader of records gives: its answer, and, where that passes, where each record starts and where the last one ends.
+use Rattle.std.specs.Prelude.{◌≡◌, List, ℕ, ◌+◌, Result, IfOk}
+use Rattle.exact.specs.Table.{padded}
+use Rattle.verdict.specs.Answer.{Answer, answer_of}
+use Rattle.verdict.specs.declared.Refusal.{Refusal}
 use Rattle.records.specs.declared.Layout.{Layout}
 use Rattle.records.specs.Form.{max_records, start_of, form_tests}
 
@@ -9,12 +10,11 @@ use Rattle.records.specs.Form.{max_records, start_of, form_tests}
 abbrev pub max_starts : ℕ
 max_starts = max_records + 1
 
--- an answer that so many records get, with their starts; a refusal has no starts
-pub record Laid (a : Answer) (count : ℕ) (s : List ℕ) (r : Layout) : Type 0 where
-  pub answer : answer_of r.verdict ≡ a
-  pub starts : a ≡ pass → r.starts ≡ padded 0 max_starts (count + 1) (start_of s)
-  pub none : (a ≡ pass → ⊥) → r.starts ≡ table max_starts (λ _. 0)
+-- an answer that so many records get, with their starts
+pub record Laid (a : Answer) (count : ℕ) (s : List ℕ) (r : Result Layout Refusal) : Type 0 where
+  pub answer : answer_of r ≡ a
+  pub starts : IfOk r (λ l. l.starts ≡ padded 0 max_starts (count + 1) (start_of s))
 
 -- the answer to the form
-abbrev pub LayoutAnswer : ℕ → List ℕ → Layout → Type 0
+abbrev pub LayoutAnswer : ℕ → List ℕ → Result Layout Refusal → Type 0
 LayoutAnswer count s r = Laid (form_tests count s) count s r

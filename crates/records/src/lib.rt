@@ -9,12 +9,11 @@
 #![tactic(auto)]
 
 ghost use Rattle.std.specs.Prelude.{◌≡◌, not, ◌&&◌, ◌+◌, ◌<◌, ◌≤◌, eqb, ltb, length};
-ghost use Rattle.exact.specs.Table.{table};
 ghost use Rattle.verdict.specs.Answer.{answer_of};
 ghost use Rattle.endian.specs.Bytes.{number};
 ghost use Rattle.records.specs.Names.{name_start, name_count};
 ghost use Rattle.records.specs.Form.{max_records, longest, names_kind, kind_of, body_at, end_at, counts_out, names_at, long_out, body_out, record_tests, records_tests};
-ghost use Rattle.records.specs.Laid.{max_starts, Laid, LayoutAnswer};
+ghost use Rattle.records.specs.Laid.{Laid, LayoutAnswer};
 
 use matrix::Matrix;
 use tree::Tree;
@@ -23,7 +22,6 @@ use verdict::{Place, Reason, Refusal, Verdict};
 // Where each record of a sheet of the form starts, then where the last one ends, then zeros.
 #[derive(Clone, Copy)]
 pub struct Layout {
-    pub verdict: Verdict,
     pub starts: [usize; Layout::MAX_STARTS],
 }
 
@@ -87,6 +85,7 @@ pub fn names_in(s: &[u8], from: usize, to: usize) -> Walk
 {
     let mut at = from;
     let mut count = 0;
+    // Each name says where the next begins, so nobody knows before how many there are.
     while at < to {
         at = at + 1 + s[at] as usize;
         count += 1;
@@ -163,70 +162,46 @@ pub fn one_record(s: &[u8], at: usize, kind: usize) -> Verdict
 {
     let left = s.len() - at;
     if left < Layout::HEAD {
-        return Verdict::Refused(Refusal {
+        return Err(Refusal {
             reason: Reason::RecordCut,
             place: Place::Byte(at),
         });
     }
     if left - Layout::HEAD < endian::u32_at(s, at) as usize {
-        return Verdict::Refused(Refusal {
+        return Err(Refusal {
             reason: Reason::RecordCut,
             place: Place::Byte(at),
         });
     }
     if endian::u16_at(s, at + 4) as usize != kind {
-        return Verdict::Refused(Refusal {
+        return Err(Refusal {
             reason: Reason::WrongKind,
             place: Place::Byte(at),
         });
     }
     if body_out(s, at, kind) {
-        return Verdict::Refused(Refusal {
+        return Err(Refusal {
             reason: Reason::WrongCounts,
             place: Place::Byte(at),
         });
     }
-    Verdict::Accepted
-}
-
-fn no_starts() -> [usize; Layout::MAX_STARTS]
-    ensures { result ≡ table max_starts (λ _. 0) }
-{
-    [0; Layout::MAX_STARTS]
-}
-
-// A refusal, with no starts.
-pub fn refused(refusal: Refusal) -> Layout
-    ensures { (result.verdict ≡ Verdict.Refused refusal) × (result.starts ≡ table max_starts (λ _. 0)) }
-{
-    Layout {
-        verdict: Verdict::Refused(refusal),
-        starts: no_starts(),
-    }
+    Ok(())
 }
 
 // 2, 3, 4 for each of so many records in turn.
-pub fn in_turn(s: &[u8], count: usize) -> Layout
+pub fn in_turn(s: &[u8], count: usize) -> Result<Layout, Refusal>
     requires { count ≤ max_records }
     ensures { Laid (records_tests s.now count) count s.now result }
 {
-    let mut starts = no_starts();
+    let mut starts: [usize; Layout::MAX_STARTS] = arrays::filled(0);
     let mut at = 0;
-    let mut k = 0;
-    while k < count {
+    for k in 0..count {
         starts[k] = at;
-        let of_record = one_record(s, at, kind_of(k));
-        if let Verdict::Refused(refusal) = of_record {
-            return refused(refusal);
-        }
+        one_record(s, at, kind_of(k))?;
         at = at + Layout::HEAD + endian::u32_at(s, at) as usize;
-        k += 1;
     }
     starts[count] = at;
-    Layout {
-        verdict: Verdict::Accepted,
-        starts,
-    }
+    Ok(Layout { starts })
 }
 
 // 4 in a sheet with names, also: the fourth record, which starts at `at`, has not as many names as the matrix has strains.
@@ -243,34 +218,30 @@ fn names_differ(s: &[u8], count: usize, at: usize) -> bool
 
 // The form of a sheet of so many records, three, without lengths two, or with names four: 1; 2, 3, 4 for each record in turn;
 // 4 for names that are not N; 5 at the first byte behind the last record.
-pub fn records(s: &[u8], count: usize) -> Layout
+pub fn records(s: &[u8], count: usize) -> Result<Layout, Refusal>
     requires { count ≤ max_records }
     ensures { LayoutAnswer count s.now result }
 {
     if s.len() > limit(count) {
-        return refused(Refusal {
+        return Err(Refusal {
             reason: Reason::SheetTooLong,
             place: Place::Nowhere,
         });
     }
-    let laid = in_turn(s, count);
-    let of_records = laid.verdict;
-    if let Verdict::Refused(refusal) = of_records {
-        return refused(refusal);
-    }
+    let laid = in_turn(s, count)?;
     let names = laid.starts[3];
     if names_differ(s, count, names) {
-        return refused(Refusal {
+        return Err(Refusal {
             reason: Reason::WrongCounts,
             place: Place::Byte(names),
         });
     }
     let end = laid.starts[count];
     if end < s.len() {
-        return refused(Refusal {
+        return Err(Refusal {
             reason: Reason::BytesLeft,
             place: Place::Byte(end),
         });
     }
-    laid
+    Ok(laid)
 }

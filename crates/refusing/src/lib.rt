@@ -1,4 +1,4 @@
-// One test as an answer: refused for a reason, at no place, where it applies. `verdict::or_else` puts tests in order.
+// One test as an answer: refused for a reason, at no place, where it applies. `?` and `Result::and` put tests in order.
 #![tactic(auto)]
 
 ghost use Rattle.std.specs.Prelude.{◌≡◌};
@@ -10,10 +10,10 @@ pub fn test(reason: Reason, applies: bool) -> Verdict
     ensures { answer_of result ≡ test (reason_number reason) applies }
 {
     if applies {
-        return Verdict::Refused(Refusal {
+        return Err(Refusal {
             reason,
             place: Place::Nowhere,
         });
     }
-    Verdict::Accepted
+    Ok(())
 }

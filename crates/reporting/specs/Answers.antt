@@ -1,9 +1,9 @@
--- What the report hands back.
-use Rattle.std.specs.Prelude.{◌≡◌, List, ℕ, ◌*◌, ◌≤◌, ℤ, pos, nat_abs, length}
+-- What the report gives.
+use Rattle.std.specs.Prelude.{◌≡◌, List, ℕ, ◌*◌, ◌≤◌, ℤ, nat_abs, Result, IfOk, IfErr, length}
 use Rattle.exact.specs.Table.{table}
-use Rattle.verdict.specs.Answer.{Answer, pass, answer_of, test, ◌or_else◌}
+use Rattle.verdict.specs.Answer.{Answer, answer_of, test, ◌or_else◌}
 use Rattle.verdict.specs.declared.Rule.{Rule}
-use Rattle.mean.specs.declared.Mean.TheVariants.{None}
+use Rattle.verdict.specs.declared.Refusal.{Refusal}
 use Rattle.mean.specs.Mean.{mean_of}
 use Rattle.tree_theory.specs.Limits.{max_edges}
 use Rattle.lengths.specs.Limits.{max_numerator}
@@ -32,31 +32,19 @@ pub record Reported (rule : Rule) (N : ℕ) (ds ps : List ℕ) (D : ℕ) (ns : L
   pub least : Least rule N ds ps D ns
   pub near : nat_abs (tree_length ns) ≤ max_tree_length
 
--- nothing is reported
-pub record Silent (x : FitReport) : Type 0 where
-  pub strains : x.strains ≡ 0
-  pub edges : x.edges ≡ 0
-  pub denominator : x.denominator ≡ 0
-  pub total : x.length ≡ pos 0
-  pub f : x.f ≡ pos 0
-  pub r : x.r ≡ pos 0
-  pub h : x.h ≡ pos 0
-  pub mean : x.mean ≡ None
-
 -- a report of the answer a: the numbers and the rounded lengths where it passes, otherwise nothing and the buffer as it was
-pub record Report (a : Answer) (rule : Rule) (N : ℕ) (ds ps : List ℕ) (D : ℕ) (ns before after : List ℤ) (x : FitReport) : Type 0 where
-  pub answer : answer_of x.verdict ≡ a
-  pub reported : a ≡ pass → Reported rule N ds ps D ns after x
-  pub silent : (a ≡ pass → ⊥) → Silent x
-  pub kept : (a ≡ pass → ⊥) → after ≡ before
+pub record Report (a : Answer) (rule : Rule) (N : ℕ) (ds ps : List ℕ) (D : ℕ) (ns before after : List ℤ) (r : Result FitReport Refusal) : Type 0 where
+  pub answer : answer_of r ≡ a
+  pub reported : IfOk r (λ x. Reported rule N ds ps D ns after x)
+  pub kept : IfErr r (λ _. after ≡ before)
 
 -- of lengths beside a matrix and a tree that pass: 11 to 15, 22, 23
 abbrev pub proposal_report_tests : Rule → ℕ → List ℕ → List ℕ → ℕ → List ℤ → ℕ → Answer
 proposal_report_tests rule N ds ps D ns size = proposal_tests rule N ds ps D ns or_else test 15 (buffer_out size (length ps))
 
-abbrev pub ProposalReport : (rule : Rule) (N : ℕ) → (ds ps : List ℕ) → (D : ℕ) → (ns before after : List ℤ) → FitReport → Type 0
-ProposalReport rule N ds ps D ns before after x = Report (proposal_report_tests rule N ds ps D ns (length before)) rule N ds ps D ns before after x
+abbrev pub ProposalReport : (rule : Rule) (N : ℕ) → (ds ps : List ℕ) → (D : ℕ) → (ns before after : List ℤ) → Result FitReport Refusal → Type 0
+ProposalReport rule N ds ps D ns before after r = Report (proposal_report_tests rule N ds ps D ns (length before)) rule N ds ps D ns before after r
 
 -- of all that is lent: 4, 6 to 16, 22, 23, 26
-abbrev pub ReportAnswer : (rule : Rule) (N : ℕ) → (ds ps : List ℕ) → (D : ℕ) → (ns before after : List ℤ) → FitReport → Type 0
-ReportAnswer rule N ds ps D ns before after x = Report (report_tests rule N ds ps D ns (length before)) rule N ds ps D ns before after x
+abbrev pub ReportAnswer : (rule : Rule) (N : ℕ) → (ds ps : List ℕ) → (D : ℕ) → (ns before after : List ℤ) → Result FitReport Refusal → Type 0
+ReportAnswer rule N ds ps D ns before after r = Report (report_tests rule N ds ps D ns (length before)) rule N ds ps D ns before after r

@@ -4,16 +4,15 @@
 
 ghost use Rattle.std.specs.Prelude.{◌≡◌, length};
 ghost use Rattle.fit_theory.specs.Stands.{Posted, Stands};
-ghost use Rattle.reporting.specs.Answers.{Reported, Silent, ProposalReport, ReportAnswer};
+ghost use Rattle.reporting.specs.Answers.{Reported, ProposalReport, ReportAnswer};
 
 use mean::Mean;
-use verdict::{Place, Reason, Refusal, Rule, Verdict};
+use verdict::{Place, Reason, Refusal, Rule};
 
-// The numbers of an accepted fit; of a refused one the verdict, and zeros. The tree length is length / denominator, the
-// sum of squares f / denominator, the mean square f over what mean says.
+// The numbers of an accepted fit. The tree length is length / denominator, the sum of squares f / denominator, the mean
+// square f over what mean says.
 #[derive(Clone, Copy)]
 pub struct FitReport {
-    pub verdict: Verdict,
     pub strains: u32,
     pub edges: usize,
     pub denominator: u32,
@@ -22,23 +21,6 @@ pub struct FitReport {
     pub r: i64,
     pub h: i64,
     pub mean: Mean,
-}
-
-// The report of a refusal: its verdict, and nothing more.
-pub fn silent(refusal: Refusal) -> FitReport
-    ensures { (result.verdict ≡ Verdict.Refused refusal) × Silent result }
-{
-    FitReport {
-        verdict: Verdict::Refused(refusal),
-        strains: 0,
-        edges: 0,
-        denominator: 0,
-        length: 0,
-        f: 0,
-        r: 0,
-        h: 0,
-        mean: Mean::None,
-    }
 }
 
 // The numbers of lengths that fit, with the rounded lengths in the buffer. That they fit is what keeps F and R within
@@ -54,8 +36,7 @@ pub fn numbered(
 ) -> FitReport
     requires stands { Stands rule n distances.now parents.now d numerators.now }
     requires rounded_len { length rounded.old ≡ length parents.now }
-    ensures verdict_value { result.verdict ≡ Verdict.Accepted }
-    ensures reported { Reported rule n distances.now parents.now d numerators.now rounded.new result }
+    ensures { Reported rule n distances.now parents.now d numerators.now rounded.new result }
 {
     let strains = n as usize;
     let edges = parents.len();
@@ -72,7 +53,6 @@ pub fn numbered(
     let length = fit_numbers::total(edges, numerators);
     tables::copy_out(edges, &thousandths, rounded);
     FitReport {
-        verdict: Verdict::Accepted,
         strains: n,
         edges,
         denominator: d,
@@ -93,21 +73,18 @@ pub fn report_proposal(
     d: u32,
     numerators: &[i64],
     rounded: &mut [i64],
-) -> FitReport
+) -> Result<FitReport, Refusal>
     requires { Posted n distances.now parents.now }
     ensures { ProposalReport rule n distances.now parents.now d numerators.now rounded.old rounded.new result }
 {
-    let found = judging::judge_proposal(rule, n, distances, parents, d, numerators);
-    if let Verdict::Refused(refusal) = found {
-        return silent(refusal);
-    }
+    judging::judge_proposal(rule, n, distances, parents, d, numerators)?;
     if rounded.len() != parents.len() {
-        return silent(Refusal {
+        return Err(Refusal {
             reason: Reason::Buffer,
             place: Place::Nowhere,
         });
     }
-    numbered(rule, n, distances, parents, d, numerators, rounded)
+    Ok(numbered(rule, n, distances, parents, d, numerators, rounded))
 }
 
 // The report: 4, 6 to 16, 22, 23, 26, the first that applies.
@@ -119,12 +96,9 @@ pub fn report(
     d: u32,
     numerators: &[i64],
     rounded: &mut [i64],
-) -> FitReport
+) -> Result<FitReport, Refusal>
     ensures { ReportAnswer rule n distances.now parents.now d numerators.now rounded.old rounded.new result }
 {
-    let posted = posting::check_posting(n, distances, parents);
-    if let Verdict::Refused(refusal) = posted {
-        return silent(refusal);
-    }
+    posting::check_posting(n, distances, parents)?;
     report_proposal(rule, n, distances, parents, d, numerators, rounded)
 }

@@ -15,6 +15,8 @@ use lib.ListN.{length, get_or}
 use Rattle.exact.specs.Order.{◌≤ᶻ◌}
 use Rattle.exact.specs.Table.{entry_of}
 use Rattle.verdict.specs.Answer.{Answer, pass, test, ◌or_else◌}
+use Rattle.std.specs.Prelude.{Result, Ok}
+use Rattle.verdict.specs.declared.Refusal.{Refusal}
 use Rattle.verdict.specs.declared.Rule.{Rule}
 use Rattle.verdict.specs.declared.Rule.TheVariants.{Plain, Drawable}
 use Rattle.fit_theory.specs.Stands.{Stands}
@@ -70,7 +72,7 @@ module _ (s : List ℕ) where
     sheet-drawable = let (form, matrix, strains, e) = accepted-parts Plain z in
         pass_or_else form (pass_or_else matrix (pass_or_else strains (drawable_too (strains_of s) (distances_of s) (parents_of s) (denominator_of s) (numerators_of s) up e)))
 
-    pub drawable-report : (x y : SheetFit) → SheetReport Plain s x → SheetReport Drawable s y → x ≡ y
+    pub drawable-report : (x y : Result SheetFit Refusal) → SheetReport Plain s x → SheetReport Drawable s y → x ≡ y
     drawable-report = same-report s Plain Drawable (z ∙ sym sheet-drawable)
 
 -- the third record of a sheet by a place: of any bytes, that the place lies in the sheet; of an accepted sheet, that the record starts there, its
@@ -81,7 +83,7 @@ pub record ThirdRecord (rule : Rule) (s : List ℕ) (at : ℕ) : Type 0 where
   pub kind : sheet_tests rule s ≡ pass → kind_at s at ≡ 3
   pub ends : sheet_tests rule s ≡ pass → end_at s at ≡ length s
 
-pub third-record : (rule : Rule) (s : List ℕ) (r : Layout) → LayoutAnswer 3 s r → ThirdRecord rule s (get_or r.starts 2 0)
+pub third-record : (rule : Rule) (s : List ℕ) (r : Layout) → LayoutAnswer 3 s (Ok r) → ThirdRecord rule s (get_or r.starts 2 0)
 third-record rule s r a = let t = record-at 3 s r a 2 (omega arith) in
     record {
       within = t.within;

@@ -1,14 +1,14 @@
 -- The report on a sheet's bytes: the report of what its records hold, with the numerators and the rounded lengths in two tables.
-use Rattle.std.specs.Prelude.{◌≡◌, List, ℕ, ℤ, pos, length}
+use Rattle.std.specs.Prelude.{◌≡◌, List, ℕ, Result, IfOk, length}
 use Rattle.exact.specs.Table.{table, entry_of}
-use Rattle.verdict.specs.Answer.{pass, answer_of}
+use Rattle.verdict.specs.Answer.{answer_of}
+use Rattle.verdict.specs.declared.Refusal.{Refusal}
 use Rattle.verdict.specs.declared.Rule.{Rule}
-use Rattle.tree_theory.specs.Limits.{max_edges}
 use Rattle.tree_theory.specs.EdgeTable.{EdgeTable}
 use Rattle.fit_theory.specs.Quantities.{rounded_of}
 use Rattle.reading.specs.Holds.{strains_of, distances_of, parents_of, denominator_of, numerators_of}
 use Rattle.reading.specs.Tests.{sheet_tests}
-use Rattle.reporting.specs.Answers.{Reported, Silent}
+use Rattle.reporting.specs.Answers.{Reported}
 use Rattle.sheet.specs.declared.SheetFit.{SheetFit}
 
 -- an accepted sheet: its report, and the two tables
@@ -17,14 +17,7 @@ pub record Fitted (rule : Rule) (s : List ℕ) (r : SheetFit) : Type 0 where
   pub numerators : EdgeTable (length (parents_of s)) (entry_of (numerators_of s)) r.numerators
   pub rounded : EdgeTable (length (parents_of s)) (rounded_of (denominator_of s) (numerators_of s)) r.rounded
 
--- a refused one: nothing, and zeros
-pub record Unfitted (r : SheetFit) : Type 0 where
-  pub silent : Silent r.report
-  pub numerators : r.numerators ≡ table max_edges (λ _. pos 0)
-  pub rounded : r.rounded ≡ table max_edges (λ _. pos 0)
-
 -- the whole answer
-pub record SheetReport (rule : Rule) (s : List ℕ) (r : SheetFit) : Type 0 where
-  pub answer : answer_of r.report.verdict ≡ sheet_tests rule s
-  pub fitted : sheet_tests rule s ≡ pass → Fitted rule s r
-  pub unfitted : (sheet_tests rule s ≡ pass → ⊥) → Unfitted r
+pub record SheetReport (rule : Rule) (s : List ℕ) (r : Result SheetFit Refusal) : Type 0 where
+  pub answer : answer_of r ≡ sheet_tests rule s
+  pub fitted : IfOk r (λ x. Fitted rule s x)

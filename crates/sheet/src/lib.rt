@@ -5,14 +5,14 @@
 ghost use Rattle.std.specs.Prelude.{◌≡◌};
 ghost use Rattle.verdict.specs.Answer.{answer_of, number};
 ghost use Rattle.reading.specs.Tests.{sheet_tests};
-ghost use Rattle.sheet.specs.Reports.{Unfitted, SheetReport};
+ghost use Rattle.sheet.specs.Reports.{SheetReport};
 
+use matrix::Matrix;
 use reporting::FitReport;
 use tree::Tree;
 use verdict::{Refusal, Rule, Verdict};
 
-// The report on a sheet, with its numerators and its rounded lengths, each followed by zeros; of a refusal the verdict,
-// and zeros.
+// The report on an accepted sheet, with its numerators and its rounded lengths, each followed by zeros.
 #[derive(Clone, Copy)]
 pub struct SheetFit {
     pub report: FitReport,
@@ -24,13 +24,9 @@ pub struct SheetFit {
 pub fn sheet_judge(rule: Rule, s: &[u8]) -> Verdict
     ensures { answer_of result ≡ sheet_tests rule s.now }
 {
-    let mut distances = matrix::no_distances();
-    let mut numerators = tree::edge_zeros();
-    let sheet = reading::read_into(s, 3, &mut distances, &mut numerators);
-    let of_reader = sheet.verdict;
-    if let Verdict::Refused(refusal) = of_reader {
-        return Verdict::Refused(refusal);
-    }
+    let mut distances: [u16; Matrix::MAX_PAIRS] = arrays::filled(0);
+    let mut numerators: [i64; Tree::MAX_EDGES] = arrays::filled(0);
+    let sheet = reading::read_into(s, 3, &mut distances, &mut numerators)?;
     let pairs = sheet.pairs;
     let parents = sheet.parents;
     let end = sheet.end;
@@ -45,33 +41,18 @@ pub fn sheet_judge(rule: Rule, s: &[u8]) -> Verdict
     )
 }
 
-// What a refused sheet gets.
-fn unfitted(refusal: Refusal) -> SheetFit
-    ensures { (result.report.verdict ≡ Verdict.Refused refusal) × Unfitted result }
-{
-    SheetFit {
-        report: reporting::silent(refusal),
-        numerators: tree::edge_zeros(),
-        rounded: tree::edge_zeros(),
-    }
-}
-
 // The report on a sheet: 1 to 14, 16, 22, 23, 26, the first that applies.
-pub fn sheet_report(rule: Rule, s: &[u8]) -> SheetFit
+pub fn sheet_report(rule: Rule, s: &[u8]) -> Result<SheetFit, Refusal>
     ensures { SheetReport rule s.now result }
 {
-    let sheet = reading::read(s, 3);
-    let of_reader = sheet.verdict;
-    if let Verdict::Refused(refusal) = of_reader {
-        return unfitted(refusal);
-    }
+    let sheet = reading::read(s, 3)?;
     let pairs = sheet.pairs;
     let parents = sheet.parents;
     let end = sheet.end;
     let edges = sheet.edges;
     let distances = sheet.distances;
     let numerators = sheet.numerators;
-    let mut rounded = tree::edge_zeros();
+    let mut rounded: [i64; Tree::MAX_EDGES] = arrays::filled(0);
     let report = reporting::report_proposal(
         rule,
         sheet.strains,
@@ -80,16 +61,12 @@ pub fn sheet_report(rule: Rule, s: &[u8]) -> SheetFit
         sheet.denominator,
         &numerators[..edges],
         &mut rounded[..edges],
-    );
-    let found = report.verdict;
-    match found {
-        Verdict::Refused(refusal) => unfitted(refusal),
-        Verdict::Accepted => SheetFit {
-            report,
-            numerators,
-            rounded,
-        },
-    }
+    )?;
+    Ok(SheetFit {
+        report,
+        numerators,
+        rounded,
+    })
 }
 
 // The number that a sheet gets by a rule. The two verdicts share it: a number goes back in a register, so the tables of the sheet
@@ -97,7 +74,7 @@ pub fn sheet_report(rule: Rule, s: &[u8]) -> SheetFit
 fn sheet_number(rule: Rule, s: &[u8]) -> u32
     ensures { result ≡ number (sheet_tests rule s.now) }
 {
-    verdict::number(sheet_judge(rule, s))
+    verdict::number(&sheet_judge(rule, s))
 }
 
 // The number that a sheet gets, 0 where it is accepted. The crate sheet_c exports both verdicts to C.

@@ -1,12 +1,12 @@
 -- A sheet with names (RULES, The sheet with names): what it is asked, and where its names begin.
-use Rattle.std.specs.Prelude.{◌≡◌, Bool, true, false, List, ℕ}
+use Rattle.std.specs.Prelude.{◌≡◌, Bool, true, false, List, ℕ, Result, IfOk}
 use Rattle.verdict.specs.Answer.{Answer, pass, fault, answer_of, test, ◌or_else◌}
+use Rattle.verdict.specs.declared.Refusal.{Refusal}
 use Rattle.verdict.specs.declared.Rule.TheVariants.{Plain}
 use Rattle.records.specs.Form.{body_at, start_of, form_tests}
 use Rattle.reading.specs.Holds.{strains_of}
 use Rattle.reading.specs.Tests.{held_tests}
 use Rattle.names.specs.Record.{names_out}
-use Rattle.names.specs.declared.Named.{Named}
 
 -- a sheet counts as one with names where the form of four records passes
 abbrev pub is_pass : Answer → Bool
@@ -33,6 +33,6 @@ abbrev pub named_tests : List ℕ → Answer
 named_tests s = label_tests s or_else held_tests Plain s
 
 -- the form and the names: the answer, and where it passes where the names begin
-pub record Labelled (s : List ℕ) (r : Named) : Type 0 where
-  pub answer : answer_of r.verdict ≡ label_tests s
-  pub from : label_tests s ≡ pass → r.count ≡ names_from s
+pub record Labelled (s : List ℕ) (r : Result ℕ Refusal) : Type 0 where
+  pub answer : answer_of r ≡ label_tests s
+  pub from : IfOk r (λ k. k ≡ names_from s)

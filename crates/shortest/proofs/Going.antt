@@ -1,6 +1,6 @@
 -- What a turn leaves: a line within its room, and a run that is held, with one sheet more.
 use mathlib.Core.Path.{◌≡◌, sym, ◌∙◌, ap}
-use mathlib.Core.Bool.{Bool}
+use Rattle.std.specs.Prelude.{Some}
 use mathlib.Core.List.{List}
 use Prim.Native.Nat.{ℕ, ◌+◌, ◌≤◌}
 use native.Mathlib.Omega.{arith}
@@ -23,8 +23,8 @@ module _ (a : Run) (t before after : List ℕ) (r : Answered) where
   pub ends-within : Held a → Turned a t before after r → r.end ≤ length after
   ends-within h turn = wrote-within (turn h.state h.keeps).line
 
-  pub goes_on : (on : Bool) → Held a → Turned a t before after r → Goes a (record { run = r.run; on = on })
-  goes_on on h turn = let s = turn h.state h.keeps in record {
+  pub goes_on : Held a → Turned a t before after r → Goes a (Some r.run)
+  goes_on h turn = let s = turn h.state h.keeps in record {
     held = record { state = _; keeps = s.run };
-    more = λ _. omega (arith, s.run.count, h.keeps.count);
+    more = omega (arith, s.run.count, h.keeps.count);
   }

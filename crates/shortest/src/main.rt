@@ -3,7 +3,7 @@
 // within a sheet gets `refused 2` as its last line. Where reading or writing fails nothing more is read.
 #![tactic(auto)]
 
-ghost use Rattle.std.specs.Prelude.{◌≡◌, min, ◌+◌, ◌^◌, ◌≤◌, ◌<◌, length};
+ghost use Rattle.std.specs.Prelude.{◌≡◌, ◌+◌, ◌^◌, ◌≤◌, ◌<◌, length};
 ghost use Rattle.lines.specs.Page.{widest};
 ghost use Rattle.records.specs.Form.{max_sheet};
 ghost use Rattle.shortest_run.specs.Kept.{Held};
@@ -12,27 +12,12 @@ ghost use Rattle.shortest.specs.Framed.{came_of, lead_of};
 
 use records::Layout;
 use shortest_run::Run;
-use streams::Taken;
 
 // The bytes of a length.
 const LEAD: usize = 4;
 
 // Room for the longest line.
 const LINE: usize = 97;
-
-// Zeros, room for a line.
-fn blank() -> [u8; LINE]
-    ensures { length result ≡ widest }
-{
-    [0; LINE]
-}
-
-// The run behind a sheet, and whether another is to be read.
-#[derive(Clone, Copy)]
-struct Next {
-    run: Run,
-    on: bool,
-}
 
 // What came of the bytes that were due: all of them, fewer because the input ended, or reading failed, which was said.
 #[derive(Clone, Copy)]
@@ -42,16 +27,14 @@ enum Came {
     Failed,
 }
 
-fn what_came(taken: Taken, due: usize) -> Came
+fn what_came(taken: Result<usize, usize>, due: usize) -> Came
     ensures { result ≡ came_of taken due }
 {
-    if !taken.whole {
-        return Came::Failed;
+    match taken {
+        Err(_) => Came::Failed,
+        Ok(count) if count < due => Came::Cut,
+        Ok(_) => Came::Whole,
     }
-    if taken.count < due {
-        return Came::Cut;
-    }
-    Came::Whole
 }
 
 // What stands before a sheet: the end of the run, a length that is cut, or a length.
@@ -62,56 +45,40 @@ enum Lead {
     Length(usize),
 }
 
-fn lead_of(taken: Taken, lead: &[u8]) -> Lead
+fn lead_of(taken: Result<usize, usize>, lead: &[u8]) -> Lead
     requires { length lead.now ≡ 4 }
     ensures { result ≡ lead_of taken lead.now }
 {
-    if !taken.whole {
-        return Lead::End;
+    match taken {
+        Err(_) | Ok(0) => Lead::End,
+        Ok(count) if count < LEAD => Lead::Broken,
+        Ok(_) => Lead::Length(endian::u32_at(lead, 0) as usize),
     }
-    if taken.count == 0 {
-        return Lead::End;
-    }
-    if taken.count < LEAD {
-        return Lead::Broken;
-    }
-    Lead::Length(endian::u32_at(lead, 0) as usize)
 }
 
-// The run is over.
-fn over(run: Run) -> Next
-    requires { Held run }
-    ensures { Goes run result }
-{
-    Next { run, on: false }
-}
-
-// The run is over, since the input ended within a length or within a sheet, which is said.
-fn cut(rt: &(impl Print + Eprint), run: Run) -> Next
-    requires { Held run }
-    ensures { Goes run result }
-{
-    let mut text = blank();
+// The input ended within a length or within a sheet, which is said.
+fn cut(rt: &(impl Print + Eprint)) {
+    let mut text: [u8; LINE] = arrays::filled(0);
     let end = shortest_lines::cut_line(&mut text);
     streams::put_out(rt, end, &text);
-    over(run)
 }
 
-// A whole sheet: its line goes out before anything more is read.
-fn answered(rt: &(impl Print + Eprint), run: Run, sheet: &[u8]) -> Next
+// A whole sheet: its line goes out before anything more is read. The run behind it, where another is to be read.
+fn answered(rt: &(impl Print + Eprint), run: Run, sheet: &[u8]) -> Option<Run>
     requires held { Held run }
     requires count_bound { run.count + 1 < 2 ^ 64 }
     ensures { Goes run result }
 {
-    let mut text = blank();
+    let mut text: [u8; LINE] = arrays::filled(0);
     let turn = shortest_run::turn(run, sheet, &mut text);
-    let next = turn.run;
-    let on = streams::put_out(rt, turn.end, &text);
-    Next { run: next, on }
+    if !streams::put_out(rt, turn.end, &text) {
+        return None;
+    }
+    Some(turn.run)
 }
 
 // A sheet of as many bytes as there is space for.
-fn sheet_in(rt: &(impl Input + Print + Eprint), run: Run, space: &mut [u8]) -> Next
+fn sheet_in(rt: &(impl Input + Print + Eprint), run: Run, space: &mut [u8]) -> Option<Run>
     requires held { Held run }
     requires count_bound { run.count + 1 < 2 ^ 64 }
     ensures { Goes run result }
@@ -119,29 +86,22 @@ fn sheet_in(rt: &(impl Input + Print + Eprint), run: Run, space: &mut [u8]) -> N
     let taken = streams::take_in(rt, space);
     match what_came(taken, space.len()) {
         Came::Whole => answered(rt, run, space),
-        Came::Cut => cut(rt, run),
-        Came::Failed => over(run),
+        Came::Cut => {
+            cut(rt);
+            None
+        }
+        Came::Failed => None,
     }
 }
 
 // A sheet of so many bytes, no more than a sheet may have.
-fn short_sheet(rt: &(impl Input + Print + Eprint), run: Run, size: usize) -> Next
+fn short_sheet(rt: &(impl Input + Print + Eprint), run: Run, size: usize) -> Option<Run>
     requires held { Held run }
     requires count_bound { (run.count + 1 < 2 ^ 64) × (size ≤ max_sheet) }
     ensures { Goes run result }
 {
     let mut space = streams::room();
     sheet_in(rt, run, &mut space[..size])
-}
-
-// The lesser of two counts.
-fn least(a: usize, b: usize) -> usize
-    ensures { result ≡ min a b }
-{
-    if a < b {
-        return a;
-    }
-    b
 }
 
 // Reads so many bytes, no more than a sheet may have, and keeps none of them.
@@ -156,8 +116,9 @@ fn piece_passed(rt: &(impl Input + Eprint), size: usize) -> Came
 // The same of any number of bytes, piece by piece.
 fn passed_by(rt: &(impl Input + Eprint), size: usize) -> Came {
     let mut left = size;
+    // Pieces of a sheet's length, and the rest; no index is counted.
     while 0 < left {
-        let piece = least(left, Layout::MAX_SHEET);
+        let piece = left.min(Layout::MAX_SHEET);
         match piece_passed(rt, piece) {
             Came::Whole => {
                 left -= piece;
@@ -175,7 +136,7 @@ fn passed_by(rt: &(impl Input + Eprint), size: usize) -> Came {
 
 // A sheet of so many bytes, more than a sheet may have. All such sheets are answered alike, whatever their bytes: this one is answered
 // by zeros, one more than a sheet may have.
-fn long_sheet(rt: &(impl Input + Print + Eprint), run: Run, size: usize) -> Next
+fn long_sheet(rt: &(impl Input + Print + Eprint), run: Run, size: usize) -> Option<Run>
     requires held { Held run }
     requires count_bound { run.count + 1 < 2 ^ 64 }
     ensures { Goes run result }
@@ -185,13 +146,16 @@ fn long_sheet(rt: &(impl Input + Print + Eprint), run: Run, size: usize) -> Next
             let space = streams::room();
             answered(rt, run, &space)
         }
-        Came::Cut => cut(rt, run),
-        Came::Failed => over(run),
+        Came::Cut => {
+            cut(rt);
+            None
+        }
+        Came::Failed => None,
     }
 }
 
 // A sheet of so many bytes.
-fn sized_sheet(rt: &(impl Input + Print + Eprint), run: Run, size: usize) -> Next
+fn sized_sheet(rt: &(impl Input + Print + Eprint), run: Run, size: usize) -> Option<Run>
     requires held { Held run }
     requires count_bound { run.count + 1 < 2 ^ 64 }
     ensures { Goes run result }
@@ -203,7 +167,7 @@ fn sized_sheet(rt: &(impl Input + Print + Eprint), run: Run, size: usize) -> Nex
 }
 
 // The next sheet of standard input, with its length before it, or the end.
-fn next_sheet(rt: &(impl Input + Print + Eprint), run: Run) -> Next
+fn next_sheet(rt: &(impl Input + Print + Eprint), run: Run) -> Option<Run>
     requires held { Held run }
     requires count_bound { run.count + 1 < 2 ^ 64 }
     ensures { Goes run result }
@@ -211,8 +175,11 @@ fn next_sheet(rt: &(impl Input + Print + Eprint), run: Run) -> Next
     let mut lead = [0; LEAD];
     let taken = streams::take_in(rt, &mut lead);
     match lead_of(taken, &lead) {
-        Lead::End => over(run),
-        Lead::Broken => cut(rt, run),
+        Lead::End => None,
+        Lead::Broken => {
+            cut(rt);
+            None
+        }
         Lead::Length(size) => sized_sheet(rt, run, size),
     }
 }
@@ -220,12 +187,10 @@ fn next_sheet(rt: &(impl Input + Print + Eprint), run: Run) -> Next
 // Sheet after sheet. Each takes a number below 2^64, and a run of so many sheets ends there.
 fn main(rt: HostRuntime) {
     let mut run = shortest_run::start();
-    while run.count < u64::MAX {
-        let next = next_sheet(&rt, run);
-        if !next.on {
+    for _sheet in 0..u64::MAX {
+        let Some(next) = next_sheet(&rt, run) else {
             return;
-        }
-        let after = next.run;
-        run = after;
+        };
+        run = next;
     }
 }

@@ -2,14 +2,13 @@
 #![tactic(auto)]
 
 ghost use Rattle.std.specs.Prelude.{[], ◌∷◌, ◌≤◌, pos, length};
-ghost use Rattle.verdict.specs.Answer.{answer_of};
 ghost use Rattle.verdict.specs.declared.Place.TheVariants.{Nowhere};
 ghost use Rattle.writing.specs.Text.{Wrote};
 ghost use Rattle.lines.specs.Lines.{line, refused_line};
 ghost use Rattle.lines.specs.Page.{widest};
-ghost use Rattle.shortest_lines.specs.Answered.{best_word, line_of};
+ghost use Rattle.shortest_lines.specs.Answered.{best_word, line_of_result};
 
-use verdict::{Place, Reason, Refusal, Verdict};
+use verdict::{Place, Reason, Refusal};
 
 // best, and the winner's number.
 fn best_line(text: &mut [u8], number: u64) -> usize
@@ -22,17 +21,14 @@ fn best_line(text: &mut [u8], number: u64) -> usize
     writing::put(text, end, b'\n')
 }
 
-// The line of an answer, with the winner's number where it is accepted.
-pub fn answer_line(verdict: Verdict, number: u64, text: &mut [u8]) -> usize
+// The line of an answer: the winner's number, or the refusal.
+pub fn answer_line(best: Result<u64, Refusal>, text: &mut [u8]) -> usize
     requires { widest ≤ length text.old }
-    ensures { Wrote text.old text.new 0 (line_of (answer_of verdict) number) result }
+    ensures { Wrote text.old text.new 0 (line_of_result best) result }
 {
-    match verdict {
-        Verdict::Refused(refusal) => {
-            let place = refusal.place;
-            lines::refused_line(text, 0, verdict::number(Verdict::Refused(refusal)), place)
-        }
-        Verdict::Accepted => best_line(text, number),
+    match best {
+        Err(refusal) => lines::refused_line(text, 0, u32::from(refusal.reason), refusal.place),
+        Ok(number) => best_line(text, number),
     }
 }
 
@@ -42,11 +38,10 @@ pub fn cut_line(text: &mut [u8]) -> usize
     ensures { Wrote text.old text.new 0 (refused_line 2 Nowhere) result }
 {
     answer_line(
-        Verdict::Refused(Refusal {
+        Err(Refusal {
             reason: Reason::RecordCut,
             place: Place::Nowhere,
         }),
-        0,
         text,
     )
 }

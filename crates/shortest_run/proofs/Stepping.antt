@@ -1,6 +1,6 @@
 -- One sheet of a run, by the choice between the winner and it, or by its own answer while there is no winner.
 use mathlib.Core.Path.{◌≡◌, refl, sym, ◌∙◌, ap, subst, subst₂}
-use mathlib.Core.Bool.{Bool, true, false, cond, not, true≢false}
+use mathlib.Core.Bool.{Bool, true, false, cond, not}
 use mathlib.Core.List.{List}
 use Prim.Native.Nat.{ℕ, ◌+◌, ◌≤◌}
 use native.Mathlib.Omega.{arith}
@@ -12,8 +12,7 @@ use Rattle.exact.specs.Order.{◌≤ᶻ◌, ◌<ᶻ◌}
 use Rattle.verdict.specs.Answer.{Answer, pass, fault, answer_of, refusal_of, test, ◌or_else◌}
 use Rattle.verdict.specs.declared.Refusal.{Refusal}
 use Rattle.verdict.specs.declared.Rule.TheVariants.{Plain}
-use Rattle.verdict.specs.declared.Verdict.{Verdict}
-use Rattle.verdict.specs.declared.Verdict.TheVariants as verdict
+use Rattle.std.specs.Prelude.{Option, Some, None, Ok, Err, IfOk}
 use Rattle.correction_theory.specs.Correction.{on_pass}
 use Rattle.writing.specs.Text.{Wrote}
 use Rattle.records.specs.Form.{max_sheet}
@@ -22,13 +21,15 @@ use Rattle.sheet.proofs.Laws.{or_else_pass}
 use Rattle.comparison.specs.Matrices.{same_matrix}
 use Rattle.comparison.proofs.Laws.{accepted-short}
 use Rattle.planner.specs.Compared.{compared_tests, length_beside, Chosen}
-use Rattle.planner.specs.declared.Choice.TheVariants.{Refused, First, Second}
-use Rattle.shortest_lines.specs.Answered.{line_of}
-use Rattle.shortest_theory.specs.Run.{Winner, none, won, answer, shorter, winner_after, step}
+use Rattle.planner.specs.declared.Winner.TheVariants.{First, Second}
+use Rattle.shortest_lines.specs.Answered.{line_of_result}
+use Rattle.shortest_lines.proofs.Lines.{line-is}
+use Rattle.shortest_theory.specs.Run.{Winner, none, won, answer, shorter, winner_after, number_of, step}
+use Rattle.shortest_run.specs.declared.Best.{Best}
 use Rattle.shortest_run.specs.declared.Run.{Run}
 use Rattle.shortest_run.specs.declared.Stepped.{Stepped}
-use Rattle.shortest_run.specs.Kept.{NoWinner, IsWinner, KeepsWinner, Passed, Won, Steps, Turned}
-use Rattle.shortest_run.proofs.Keeping.{front_of, number-of}
+use Rattle.shortest_run.specs.Kept.{IsWinner, KeepsWinner, Won, Steps, Turned}
+use Rattle.shortest_run.proofs.Keeping.{front_of}
 
 -- ---- the comparison as the definitions have it
 less_true : (a b : ℤ) → a <ᶻ b → lt_z a b ≡ true
@@ -49,49 +50,49 @@ alone : (a : Answer) → a ≡ (a or_else pass)
 alone pass = refl
 alone (fault n p) = refl
 
--- ---- the winner is as it was, or the sheet is the winner
-still-none : (a r : Run) → Passed a r → NoWinner a → NoWinner r
-still-none a r p h = record { found = p.found ∙ h.found; number = p.number ∙ h.number; length = p.length ∙ h.length; bytes = p.bytes ∙ h.bytes }
+-- ---- one sheet beside a winner, which takes the number n
+record StepsTo (y : Winner) (n : ℕ) (t : List ℕ) (x : Stepped) : Type 0 where
+  pub answer : answer_of x.best ≡ answer y t
+  pub number : IfOk x.best (λ k. k ≡ number_of (winner_after y n t))
+  pub winner : KeepsWinner (winner_after y n t) x.run.best
 
-still_wins : (a r : Run) (k : ℕ) (s : List ℕ) → Passed a r → IsWinner k s a → IsWinner k s r
-still_wins a r k s p h = record { found = p.found ∙ h.found; number = p.number ∙ h.number; long = p.length ∙ h.long; bytes = p.bytes ∙ h.bytes; accepted = h.accepted }
-
-now_wins : (r : Run) (n : ℕ) (t : List ℕ) → Won n t r → sheet_tests Plain t ≡ pass → IsWinner n t r
-now_wins r n t p z = record { found = p.found; number = p.number; long = p.long; bytes = p.bytes; accepted = z }
-
-module _ (a : Run) (t : List ℕ) where
+module _ (n : ℕ) (t : List ℕ) where
   -- by the winner that is kept, whichever it is
-  from : (v : Verdict) (r : Run) → r.count ≡ a.count + 1 → ((y : Winner) → KeepsWinner y a → (answer_of v ≡ answer y t) × KeepsWinner (winner_after y a.count t) r)
-      → Steps a t (record { verdict = v; run = r })
-  from v r e by w k = let (p, q) = by w.winner k.winner in record {
-    answer = p;
-    run = record { count = omega (arith, e, k.count); winner = subst (λ (n : ℕ). KeepsWinner (winner_after w.winner n t) r) k.count q };
+  from : (b : Option Best) (x : Stepped) → x.run.count ≡ n + 1 → ((y : Winner) → KeepsWinner y b → StepsTo y n t x) → Steps (record { count = n; best = b }) t x
+  from b x e by w k = let s = subst (λ (m : ℕ). StepsTo w.winner m t x) k.count (by w.winner k.winner) in record {
+    answer = s.answer;
+    number = s.number;
+    run = record { count = let c = k.count in omega (arith, e, c); winner = s.winner };
   }
 
   -- ---- while there is no winner
-  module _ (down : a.found ≡ false) (v : Verdict) (z : answer_of v ≡ sheet_tests Plain t) where
-    asked : answer_of v ≡ (sheet_tests Plain t or_else pass)
-    asked = z ∙ alone (sheet_tests Plain t)
+  asked : (a : Answer) → a ≡ sheet_tests Plain t → a ≡ (sheet_tests Plain t or_else pass)
+  asked a z = z ∙ alone (sheet_tests Plain t)
 
-    pub still-down : (q : Refusal) (r : Run) → v ≡ verdict.Refused q → Passed a r → Steps a t (record { verdict = v; run = r })
-    still-down q r e p = from v r p.count by
-      where
-        by : (y : Winner) → KeepsWinner y a → (answer_of v ≡ answer y t) × KeepsWinner (winner_after y a.count t) r
-        by none h = (asked, subst (λ (x : Answer). KeepsWinner (on_pass x (won a.count t) none) r) (sym (ap answer_of e) ∙ asked) (still-none a r p h))
-        by (won k s) h = absurd (true≢false (sym h.found ∙ down))
+  pub still-down : (q : Refusal) → refusal_of q ≡ sheet_tests Plain t → Steps (record { count = n; best = None }) t (record { best = Err q; run = record { count = n + 1; best = None } })
+  still-down q z = from None (record { best = Err q; run = record { count = n + 1; best = None } }) refl by
+    where
+      by : (y : Winner) → KeepsWinner y None → StepsTo y n t (record { best = Err q; run = record { count = n + 1; best = None } })
+      by none h = record {
+        answer = asked (refusal_of q) z;
+        number = tt;
+        winner = subst (λ (x : Answer). KeepsWinner (on_pass x (won n t) none) None) (asked (refusal_of q) z) tt;
+      }
+      by (won k s) h = absurd h
 
-    pub opens : (r : Run) → v ≡ verdict.Accepted → Won a.count t r → Steps a t (record { verdict = v; run = r })
-    opens r e p = from v r p.count by
-      where
-        by : (y : Winner) → KeepsWinner y a → (answer_of v ≡ answer y t) × KeepsWinner (winner_after y a.count t) r
-        by none h = (asked, subst (λ (x : Answer). KeepsWinner (on_pass x (won a.count t) none) r) (sym (ap answer_of e) ∙ asked) (now_wins r a.count t p (sym z ∙ ap answer_of e)))
-        by (won k s) h = absurd (true≢false (sym h.found ∙ down))
-
-    pub fits : v ≡ verdict.Accepted → length t ≤ max_sheet
-    fits e = accepted-short t (sym z ∙ ap answer_of e)
+  pub opens : pass ≡ sheet_tests Plain t → (b : Best) → Won n t b → Steps (record { count = n; best = None }) t (record { best = Ok n; run = record { count = n + 1; best = Some b } })
+  opens z b p = from None (record { best = Ok n; run = record { count = n + 1; best = Some b } }) refl by
+    where
+      by : (y : Winner) → KeepsWinner y None → StepsTo y n t (record { best = Ok n; run = record { count = n + 1; best = Some b } })
+      by none h = record {
+        answer = asked pass z;
+        number = subst (λ (x : Answer). n ≡ number_of (on_pass x (won n t) none)) (asked pass z) refl;
+        winner = subst (λ (x : Answer). KeepsWinner (on_pass x (won n t) none) (Some b)) (asked pass z) (record { is = p; accepted = sym z });
+      }
+      by (won k s) h = absurd h
 
   -- ---- beside the winner
-  module _ (up : a.found ≡ true) where
+  module _ (a : Best) where
     abbrev lent : List ℕ
     lent = take a.length a.bytes
 
@@ -103,44 +104,53 @@ module _ (a : Run) (t : List ℕ) where
     second-passes : (s : List ℕ) → compared_tests s t ≡ pass → sheet_tests Plain t ≡ pass
     second-passes s e = (or_else_pass (sheet_tests Plain t) (test 27 (not (same_matrix s t))) (or_else_pass (sheet_tests Plain s) (sheet_tests Plain t or_else test 27 (not (same_matrix s t))) e).1).0
 
-    pub fits-beside : Chosen lent t Second → length t ≤ max_sheet
+    pub fits-beside : Chosen lent t (Ok Second) → length t ≤ max_sheet
     fits-beside c = accepted-short t (second-passes lent c.0)
 
     -- each of the three choices, by the winner's own bytes
-    by-winner : (v : Verdict) (r : Run) → r.count ≡ a.count + 1
-        → ((k : ℕ) (s : List ℕ) → IsWinner k s a → lent ≡ s → (answer_of v ≡ answer (won k s) t) × KeepsWinner (winner_after (won k s) a.count t) r)
-        → Steps a t (record { verdict = v; run = r })
-    by-winner v r e f = from v r e by
+    by-winner : (x : Stepped) → x.run.count ≡ n + 1 → ((k : ℕ) (s : List ℕ) → IsWinner k s a → lent ≡ s → StepsTo (won k s) n t x) → Steps (record { count = n; best = Some a }) t x
+    by-winner x e f = from (Some a) x e by
       where
-        by : (y : Winner) → KeepsWinner y a → (answer_of v ≡ answer y t) × KeepsWinner (winner_after y a.count t) r
-        by none h = absurd (true≢false (sym up ∙ h.found))
-        by (won k s) h = f k s h (front_of a k s h)
+        by : (y : Winner) → KeepsWinner y (Some a) → StepsTo y n t x
+        by none h = absurd h
+        by (won k s) h = f k s h (front_of a k s h.is)
 
     -- the winner after a sheet that passes, by the comparison
-    passing : (k : ℕ) (s : List ℕ) (b : Bool) (r : Run) → pass ≡ answer (won k s) t → b ≡ lt_z (length_beside t s) (length_beside s t)
-        → KeepsWinner (cond b (won a.count t) (won k s)) r → KeepsWinner (winner_after (won k s) a.count t) r
-    passing k s b r e f h = subst₂ (λ (x : Answer) (y : Bool). KeepsWinner (on_pass x (cond y (won a.count t) (won k s)) (won k s)) r) e f h
+    passing : (P : Winner → Type 0) (k : ℕ) (s : List ℕ) (b : Bool) → pass ≡ answer (won k s) t → b ≡ lt_z (length_beside t s) (length_beside s t)
+        → P (cond b (won n t) (won k s)) → P (winner_after (won k s) n t)
+    passing P k s b e f h = subst₂ (λ (x : Answer) (y : Bool). P (on_pass x (cond y (won n t) (won k s)) (won k s))) e f h
 
-    pub refused : (q : Refusal) (r : Run) → Chosen lent t (Refused q) → Passed a r → Steps a t (record { verdict = verdict.Refused q; run = r })
-    refused q r c p = by-winner (verdict.Refused q) r p.count (λ k s h e.
-        let n : refusal_of q ≡ answer (won k s) t = subst (λ (u : List ℕ). Chosen u t (Refused q)) e c ∙ beside k s h in
-        (n, subst (λ (x : Answer). KeepsWinner (on_pass x (shorter (won k s) a.count t) (won k s)) r) n (still_wins a r k s p h)))
+    pub refused : (q : Refusal) → Chosen lent t (Err q) → Steps (record { count = n; best = Some a }) t (record { best = Err q; run = record { count = n + 1; best = Some a } })
+    refused q c = by-winner (record { best = Err q; run = record { count = n + 1; best = Some a } }) refl (λ k s h e.
+        let r : refusal_of q ≡ answer (won k s) t = subst (λ (u : List ℕ). Chosen u t (Err q)) e c ∙ beside k s h in record {
+          answer = r;
+          number = tt;
+          winner = subst (λ (x : Answer). KeepsWinner (on_pass x (shorter (won k s) n t) (won k s)) (Some a)) r h;
+        })
 
-    pub keeps-first : (r : Run) → Chosen lent t First → Passed a r → Steps a t (record { verdict = verdict.Accepted; run = r })
-    keeps-first r c p = by-winner verdict.Accepted r p.count (λ k s h e.
-        let d : Chosen s t First = subst (λ (u : List ℕ). Chosen u t First) e c in
-        let n : pass ≡ answer (won k s) t = sym d.0 ∙ beside k s h in
-        (n, passing k s false r n (sym (most_false (length_beside t s) (length_beside s t) d.1)) (still_wins a r k s p h)))
+    pub keeps-first : Chosen lent t (Ok First) → Steps (record { count = n; best = Some a }) t (record { best = Ok a.number; run = record { count = n + 1; best = Some a } })
+    keeps-first c = by-winner (record { best = Ok a.number; run = record { count = n + 1; best = Some a } }) refl (λ k s h e.
+        let d : Chosen s t (Ok First) = subst (λ (u : List ℕ). Chosen u t (Ok First)) e c in
+        let r : pass ≡ answer (won k s) t = sym d.0 ∙ beside k s h in
+        let l : false ≡ lt_z (length_beside t s) (length_beside s t) = sym (most_false (length_beside t s) (length_beside s t) d.1) in record {
+          answer = r;
+          number = passing (λ (w : Winner). a.number ≡ number_of w) k s false r l h.is.number;
+          winner = passing (λ (w : Winner). KeepsWinner w (Some a)) k s false r l h;
+        })
 
-    pub takes_second : (r : Run) → Chosen lent t Second → Won a.count t r → Steps a t (record { verdict = verdict.Accepted; run = r })
-    takes_second r c p = by-winner verdict.Accepted r p.count (λ k s h e.
-        let d : Chosen s t Second = subst (λ (u : List ℕ). Chosen u t Second) e c in
-        let n : pass ≡ answer (won k s) t = sym d.0 ∙ beside k s h in
-        (n, passing k s true r n (sym (less_true (length_beside t s) (length_beside s t) d.1)) (now_wins r a.count t p (second-passes s d.0))))
+    pub takes_second : (b : Best) → Chosen lent t (Ok Second) → Won n t b → Steps (record { count = n; best = Some a }) t (record { best = Ok n; run = record { count = n + 1; best = Some b } })
+    takes_second b c p = by-winner (record { best = Ok n; run = record { count = n + 1; best = Some b } }) refl (λ k s h e.
+        let d : Chosen s t (Ok Second) = subst (λ (u : List ℕ). Chosen u t (Ok Second)) e c in
+        let r : pass ≡ answer (won k s) t = sym d.0 ∙ beside k s h in
+        let l : true ≡ lt_z (length_beside t s) (length_beside s t) = sym (less_true (length_beside t s) (length_beside s t) d.1) in record {
+          answer = r;
+          number = passing (λ (w : Winner). n ≡ number_of w) k s true r l refl;
+          winner = passing (λ (w : Winner). KeepsWinner w (Some b)) k s true r l (record { is = p; accepted = second-passes s d.0 });
+        })
 
-  -- ---- with the line
-  pub turns : (x : Stepped) → Steps a t x → (b c : List ℕ) (e : ℕ) → Wrote b c 0 (line_of (answer_of x.verdict) x.run.number) e → Turned a t b c (record { run = x.run; end = e })
-  turns x h b c e p w k = let s = h w k in record {
-    run = s.run;
-    line = subst₂ (λ (y : Answer) (n : ℕ). Wrote b c 0 (line_of y n) e) s.answer (number-of x.run (step w t).winner s.run.winner) p;
-  }
+-- ---- with the line
+pub turns : (a : Run) (t : List ℕ) (x : Stepped) → Steps a t x → (b c : List ℕ) (e : ℕ) → Wrote b c 0 (line_of_result x.best) e → Turned a t b c (record { run = x.run; end = e })
+turns a t x h b c e p w k = let s = h w k in record {
+  run = s.run;
+  line = subst (λ (l : List ℕ). Wrote b c 0 l e) (line-is x.best (answer w.winner t) (number_of (step w t).winner) s.answer s.number) p;
+}

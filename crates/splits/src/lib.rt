@@ -23,12 +23,10 @@ fn add_row(distances: &[u16], first: usize, j: usize, own: &mut [i64; Tree::MAX_
     ensures { RowAdded distances.now j own.old own.new }
 {
     let mut whole: i64 = 0;
-    let mut i = 0;
-    while i < j {
+    for i in 0..j {
         let far = distances[first + i] as i64;
         own[i] = own[i] + far;
         whole = whole + far;
-        i += 1;
     }
     own[j] = own[j] + whole;
 }
@@ -40,12 +38,10 @@ fn totals(n: usize, distances: &[u16], own: &mut [i64; Tree::MAX_EDGES])
     requires own_value { own.old ≡ table max_edges (λ _. pos 0) }
     ensures { Rows n distances.now own.new }
 {
-    let mut j = 0;
     let mut first = 0;
-    while j < n {
+    for j in 0..n {
         add_row(distances, first, j, own);
         first += j;
-        j += 1;
     }
 }
 
@@ -59,6 +55,7 @@ fn before(distances: &[u16], others: u64, j: usize) -> i64
 {
     let mut sum = 0;
     let mut left = others;
+    // A mask is walked by its lowest bit; no index is counted.
     while left != 0 {
         let low = meeting::lowest_strain(left);
         let at = matrix::place(low.strain, j);
@@ -77,6 +74,7 @@ fn behind(distances: &[u16], others: u64, j: usize) -> i64
 {
     let mut sum = 0;
     let mut left = others;
+    // A mask is walked by its lowest bit; no index is counted.
     while left != 0 {
         let low = meeting::lowest_strain(left);
         let at = matrix::place(j, low.strain);
@@ -105,6 +103,7 @@ fn rows_between(distances: &[u16], each: u64, others: u64) -> i64
 {
     let mut sum = 0;
     let mut left = each;
+    // A mask is walked by its lowest bit; no index is counted.
     while left != 0 {
         let low = meeting::lowest_strain(left);
         sum = sum + between(distances, others, low.strain);
@@ -145,8 +144,7 @@ pub fn splits(
 {
     totals(n, distances, sums);
     let mut come = clusters::own_bits(n);
-    let mut v = 0;
-    while v < edges {
+    for v in 0..edges {
         let here = come[v];
         let m = parents[v] as usize;
         let there = come[m];
@@ -157,6 +155,5 @@ pub fn splits(
             let met = crossed(distances, here, there);
             sums[m] = sums[m] + sums[v] - met - met;
         }
-        v += 1;
     }
 }

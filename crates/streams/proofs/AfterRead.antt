@@ -1,38 +1,43 @@
--- What each answer of a read tells of the bytes that came, and that one more read leads from what came before it to what comes
--- of all of them.
-use mathlib.Core.Path.{◌≡◌, refl, sym, ◌∙◌, subst}
-use mathlib.Core.Bool.{true}
+-- What one read told leads from what came before it to what comes of all of them: it went on (`went`), the input ended (`ended`), or it
+-- failed (`broke`).
+use mathlib.Core.Path.{◌≡◌, sym, ap, subst}
 use mathlib.Core.List.{[], ◌∷◌}
 use Prim.Native.Nat.{ℕ, zero, suc, ◌+◌, ◌-◌, ◌≤◌, ◌<◌}
 use native.Mathlib.Omega.{arith}
-use lib.IntN.{ℤ, pos, negsuc}
-use Rattle.streams.specs.declared.Taken.{Taken}
-use Rattle.streams.specs.declared.Reading.{Reading}
-use Rattle.streams.specs.declared.Reading.TheVariants.{On, Over}
-use Rattle.streams.specs.Reads.{read_of, ReadOnce, full, over, on, ReadIn}
+use lib.IntN.{pos, negsuc}
+use Rattle.std.specs.Prelude.{Option, Some, None, Result, Ok, Err, min}
+use Rattle.streams.specs.Reads.{ReadOnce, Reads, full, over, failed, on, ReadIn}
 
--- where it goes on some bytes came, and no more than there was room for; where it is over none came
-Came : ℕ → ℕ → Reading → Type 0
-Came count n (On next) = (1 ≤ n → count < next) × (next ≤ count + n)
-Came count n (Over taken) = taken.count ≡ count
+abbrev there : Option ℕ → Type 0
+there None = ⊥
+there (Some n) = Unit {0}
 
-came : (count : ℕ) (z : ℤ) (n : ℕ) → Came count n (read_of count z n)
-unfolding Came
-came count (negsuc k) n = refl
-came count (pos zero) n = refl
-came count (pos (suc k)) n = (λ h. omega arith, omega arith)
+abbrev told : ℕ → Option ℕ → ℕ
+told d None = d
+told d (Some n) = n
 
--- what a read tells where so many bytes of a buffer were filled: it goes on nearer to the end, with what comes of the reads to come, or it is over
-pub record Told (room count : ℕ) (reading : Reading) : Type 0 where
-  pub goes_on : (next : ℕ) → reading ≡ On next → (count < next) × (next ≤ room) × ((taken : Taken) → ReadIn room next taken → ReadIn room count taken)
-  pub is-over : (taken : Taken) → reading ≡ Over taken → (taken.count < room) × ReadIn room count taken
+-- so many bytes came as there was room for
+pub came : (room count next : ℕ) → ReadOnce room count (Some next) → count ≤ room → next ≤ room
+came room count next (negsuc k, e) h = absurd (subst there e tt)
+came room count next (pos n, e) h = let q = ap (told 0) e in omega (arith, q)
 
-pub told : (room count : ℕ) (reading : Reading) → ReadOnce room count reading → count < room → Told room count reading
-unfolding Came
-told room count reading (z, from) h = let n = room - count in record {
-  goes_on = λ next e. let q = subst (Came count n) (sym from ∙ e) (came count z n) in (q.0 (omega arith), omega arith, λ taken later. (z ∷ later.0, on h (sym from ∙ e) later.1));
-  is-over = λ taken e. let q = subst (Came count n) (sym from ∙ e) (came count z n) in (omega arith, (z ∷ [], over h (sym from ∙ e)));
-}
+-- it went on
+pub went : (room count next : ℕ) → ReadOnce room count (Some next) → count < room → (next ≡ count → ⊥)
+    → (count < next) × (next ≤ room) × ((r : Result ℕ ℕ) → ReadIn room next r → ReadIn room count r)
+went room count next (negsuc k, e) h n = absurd (subst there e tt)
+went room count next (pos zero, e) h n = let q = ap (told 0) e in absurd (n (omega (arith, q)))
+went room count next (pos (suc m), e) h n = let q : next ≡ count + min (suc m) (room - count) = ap (told 0) e in
+    (omega (arith, q), omega (arith, q), λ r later. (pos (suc m) ∷ later.0, on h (subst (λ (k : ℕ). Reads room k later.0 r) q later.1)))
 
-pub filled : (room count : ℕ) → room ≡ count → ReadIn room count (record { count = count; whole = true })
-filled room count e = subst (λ (k : ℕ). ReadIn room k (record { count = k; whole = true })) e ([], full)
+-- the input ended
+pub ended : (room count : ℕ) → count < room → ReadIn room count (Ok count)
+ended room count h = (pos 0 ∷ [], over h)
+
+-- it failed
+pub broke : (room count : ℕ) → ReadOnce room count None → count < room → ReadIn room count (Err count)
+broke room count (negsuc k, e) h = (negsuc k ∷ [], failed h)
+broke room count (pos n, e) h = absurd (subst there (sym e) tt)
+
+-- the buffer is full
+pub filled : (room count : ℕ) → room ≡ count → ReadIn room count (Ok count)
+filled room count e = subst (λ (k : ℕ). ReadIn room k (Ok k)) e ([], full)

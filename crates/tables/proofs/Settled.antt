@@ -10,8 +10,8 @@ use lib.Seq.{ext_get_or}
 use borrow.Author.Tests.{eqb-true, not-false}
 use lib.Dec.{eqb}
 use Rattle.exact.proofs.Decide.{by_cases}
-use Rattle.verdict.specs.Answer.{pass, answer_of, test, ◌or_else◌}
-use Rattle.verdict.specs.declared.Verdict.{Verdict}
+use Rattle.verdict.specs.Answer.{pass, test, ◌or_else◌}
+use Rattle.verdict.specs.Answer.{Verdict}
 use Rattle.verdict.proofs.Answers.{passes, same_answer, or_else_pass, test-pass}
 use Rattle.matrix.specs.Place.{pair_count, row_place}
 use Rattle.matrix.proofs.Places.{row-place-onto}

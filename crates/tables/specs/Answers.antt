@@ -2,7 +2,7 @@
 use Rattle.std.specs.Prelude.{◌≡◌, List, ℕ, ◌<◌, ℤ, length}
 use Rattle.exact.specs.Table.{table, entry_of}
 use Rattle.verdict.specs.Answer.{pass, answer_of}
-use Rattle.verdict.specs.declared.Verdict.{Verdict}
+use Rattle.verdict.specs.Answer.{Verdict}
 use Rattle.matrix.specs.Place.{row_place}
 use Rattle.tree_theory.specs.EdgeTable.{EdgeTable}
 use Rattle.fit_theory.specs.Quantities.{split_sum, path_of}

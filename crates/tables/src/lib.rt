@@ -31,10 +31,10 @@ pub fn split(
     ensures { SplitTable n distances.now parents.now result }
 {
     if matrix::some_missing(distances) {
-        let none = tree::edge_zeros();
+        let none: [i64; Tree::MAX_EDGES] = arrays::filled(0);
         return edge_sums::edge_sums(n, parents.len(), 1, distances, parents, masks, &none);
     }
-    let mut sums = tree::edge_zeros();
+    let mut sums: [i64; Tree::MAX_EDGES] = arrays::filled(0);
     splits::splits(n, parents.len(), distances, parents, &mut sums);
     sums
 }
@@ -44,10 +44,8 @@ pub fn copy_out(edges: usize, from: &[i64; Tree::MAX_EDGES], to: &mut [i64])
     requires { (edges ≤ max_edges) × (length to.old ≡ edges) }
     ensures { to.new ≡ table edges (entry_of from.now) }
 {
-    let mut v = 0;
-    while v < edges {
+    for v in 0..edges {
         to[v] = from[v];
-        v += 1;
     }
 }
 
@@ -55,12 +53,9 @@ pub fn copy_out(edges: usize, from: &[i64; Tree::MAX_EDGES], to: &mut [i64])
 pub fn split_sums(n: u32, distances: &[u16], parents: &[u8], sums: &mut [i64]) -> Verdict
     ensures { SplitAnswer n distances.now parents.now sums.old sums.new result }
 {
-    let posted = posting::check_posting(n, distances, parents);
-    if let Verdict::Refused(refusal) = posted {
-        return Verdict::Refused(refusal);
-    }
+    posting::check_posting(n, distances, parents)?;
     if sums.len() != parents.len() {
-        return Verdict::Refused(Refusal {
+        return Err(Refusal {
             reason: Reason::Buffer,
             place: Place::Nowhere,
         });
@@ -69,7 +64,7 @@ pub fn split_sums(n: u32, distances: &[u16], parents: &[u8], sums: &mut [i64]) -
     let masks = clusters::clusters(strains, parents);
     let worked = split(strains, distances, parents, &masks);
     copy_out(parents.len(), &worked, sums);
-    Verdict::Accepted
+    Ok(())
 }
 
 // Each pair's path, at the pair's place.
@@ -81,14 +76,11 @@ fn fill_paths(n: usize, parents: &[u8], numerators: &[i64], paths: &mut [i64])
 {
     let edges = parents.len();
     let between = inner_paths::inner_paths(n, edges, parents, numerators);
-    let mut i = 0;
-    let mut j = 1;
-    while j < n {
-        let at = matrix::row_place(n, i, j);
-        paths[at] = inner_paths::path(n, edges, parents, numerators, &between, i, j);
-        let next = pairs::next_pair(i, j);
-        i = next.i;
-        j = next.j;
+    for j in 1..n {
+        for i in 0..j {
+            let at = matrix::row_place(n, i, j);
+            paths[at] = inner_paths::path(n, edges, parents, numerators, &between, i, j);
+        }
     }
 }
 
@@ -102,18 +94,14 @@ pub fn path_lengths(
 ) -> Verdict
     ensures { PathsAnswer n parents.now d numerators.now paths.old paths.new result }
 {
-    let of_tree = tree::check_tree(n, parents);
-    let of_lengths = lengths::check_lengths(parents.len(), d, numerators);
-    let found = verdict::or_else(of_tree, of_lengths);
-    if let Verdict::Refused(refusal) = found {
-        return Verdict::Refused(refusal);
-    }
+    tree::check_tree(n, parents)?;
+    lengths::check_lengths(parents.len(), d, numerators)?;
     if paths.len() as u64 != matrix::pair_count(n) {
-        return Verdict::Refused(Refusal {
+        return Err(Refusal {
             reason: Reason::Buffer,
             place: Place::Nowhere,
         });
     }
     fill_paths(n as usize, parents, numerators, paths);
-    Verdict::Accepted
+    Ok(())
 }

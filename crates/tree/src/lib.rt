@@ -23,21 +23,13 @@ pub struct Tree {
     pub parents: [u8; Tree::MAX_EDGES],
 }
 
-// What a table of parents gets: the answer, and the tree where it is accepted.
-#[derive(Clone, Copy)]
-pub struct Planted {
-    pub verdict: Verdict,
-    pub tree: Tree,
-}
-
 // The first vertex whose parent is not greater than it, below n or past the root; the count of edges where none is.
 fn first_parent_out(n: usize, parents: &[u8]) -> usize
     ensures { result ≡ first (length parents.now) (parent_out n (length parents.now) (parent_of parents.now)) }
 {
     let edges = parents.len();
-    let mut v = 0;
-    while v < edges {
-        let p = parents[v] as usize;
+    for (v, parent) in parents.iter().enumerate() {
+        let p = *parent as usize;
         if p <= v {
             return v;
         }
@@ -47,28 +39,8 @@ fn first_parent_out(n: usize, parents: &[u8]) -> usize
         if p > edges {
             return v;
         }
-        v += 1;
     }
     edges
-}
-
-// Zeros, by functions of their own: proofs then carry a name in place of every entry.
-pub fn no_counts() -> [u8; Tree::MAX_VERTICES]
-    ensures { result ≡ table max_vertices (λ _. 0) }
-{
-    [0; Tree::MAX_VERTICES]
-}
-
-pub fn no_parents() -> [u8; Tree::MAX_EDGES]
-    ensures { result ≡ table max_edges (λ _. 0) }
-{
-    [0; Tree::MAX_EDGES]
-}
-
-pub fn edge_zeros() -> [i64; Tree::MAX_EDGES]
-    ensures { result ≡ table max_edges (λ _. pos 0) }
-{
-    [0; Tree::MAX_EDGES]
 }
 
 // How many children each vertex has: one pass in which each vertex counts at its parent.
@@ -77,12 +49,10 @@ fn child_counts(parents: &[u8]) -> [u8; Tree::MAX_VERTICES]
     requires by_index { (v : ℕ) → v < length parents.now → parent_of parents.now v ≤ length parents.now }
     ensures { (w : ℕ) → get_or result w 0 ≡ children (length parents.now) (parent_of parents.now) w }
 {
-    let mut counts = no_counts();
-    let mut v = 0;
-    while v < parents.len() {
-        let p = parents[v] as usize;
+    let mut counts: [u8; Tree::MAX_VERTICES] = arrays::filled(0);
+    for parent in parents {
+        let p = *parent as usize;
         counts[p] += 1;
-        v += 1;
     }
     counts
 }
@@ -106,12 +76,10 @@ pub fn first_children_out(n: usize, parents: &[u8], spare: u8) -> usize
 {
     let edges = parents.len();
     let counts = child_counts(parents);
-    let mut w = n;
-    while w < edges {
+    for w in n..edges {
         if count_out(counts[w], 2, spare) {
             return w;
         }
-        w += 1;
     }
     if count_out(counts[edges], 3, spare) {
         return edges;
@@ -125,13 +93,13 @@ pub fn check_tree(n: u32, parents: &[u8]) -> Verdict
 {
     let strains = n as usize;
     if strains < Matrix::MIN_STRAINS {
-        return Verdict::Refused(Refusal {
+        return Err(Refusal {
             reason: Reason::Strains,
             place: Place::Nowhere,
         });
     }
     if strains > Matrix::MAX_STRAINS {
-        return Verdict::Refused(Refusal {
+        return Err(Refusal {
             reason: Reason::Strains,
             place: Place::Nowhere,
         });
@@ -139,13 +107,13 @@ pub fn check_tree(n: u32, parents: &[u8]) -> Verdict
     // V is one more than the edges; the tests compare the edges, so that no sum can wrap.
     let edges = parents.len();
     if edges < strains {
-        return Verdict::Refused(Refusal {
+        return Err(Refusal {
             reason: Reason::Vertices,
             place: Place::Nowhere,
         });
     }
     if edges > 2 * strains - 3 {
-        return Verdict::Refused(Refusal {
+        return Err(Refusal {
             reason: Reason::Vertices,
             place: Place::Nowhere,
         });
@@ -153,24 +121,24 @@ pub fn check_tree(n: u32, parents: &[u8]) -> Verdict
     let v = first_parent_out(strains, parents);
     if v < edges {
         if parents[v] as usize > edges {
-            return Verdict::Refused(Refusal {
+            return Err(Refusal {
                 reason: Reason::PastRoot,
                 place: Place::Vertex(v),
             });
         }
-        return Verdict::Refused(Refusal {
+        return Err(Refusal {
             reason: Reason::Parent,
             place: Place::Vertex(v),
         });
     }
     let w = first_children_out(strains, parents, Tree::MAX_EDGES as u8);
     if w <= edges {
-        return Verdict::Refused(Refusal {
+        return Err(Refusal {
             reason: Reason::Children,
             place: Place::Vertex(w),
         });
     }
-    Verdict::Accepted
+    Ok(())
 }
 
 // The parents, then zeros.
@@ -178,13 +146,7 @@ pub fn copied(parents: &[u8]) -> [u8; Tree::MAX_EDGES]
     requires { length parents.now ≤ max_edges }
     ensures { result ≡ table max_edges (parent_of parents.now) }
 {
-    let mut copy = no_parents();
-    let mut v = 0;
-    while v < parents.len() {
-        copy[v] = parents[v];
-        v += 1;
-    }
-    copy
+    arrays::padded(parents, 0)
 }
 
 impl Tree {
@@ -193,28 +155,16 @@ impl Tree {
 
     pub const MAX_VERTICES: usize = 2 * Matrix::MAX_STRAINS - 2;
 
-    // The answer of the check, and the tree where it is accepted.
-    pub fn new(n: u32, parents: &[u8]) -> Planted
+    // The tree, where the check accepts it.
+    pub fn new(n: u32, parents: &[u8]) -> Result<Tree, Refusal>
         ensures { TreeAnswer n parents.now result }
     {
-        match check_tree(n, parents) {
-            Verdict::Accepted => Planted {
-                verdict: Verdict::Accepted,
-                tree: Tree {
-                    n: n as usize,
-                    edges: parents.len(),
-                    parents: copied(parents),
-                },
-            },
-            Verdict::Refused(refusal) => Planted {
-                verdict: Verdict::Refused(refusal),
-                tree: Tree {
-                    n: 0,
-                    edges: 0,
-                    parents: no_parents(),
-                },
-            },
-        }
+        check_tree(n, parents)?;
+        Ok(Tree {
+            n: n as usize,
+            edges: parents.len(),
+            parents: copied(parents),
+        })
     }
 }
 

@@ -2,7 +2,7 @@
 // number and the place, or `refused line` (RULES, The desk's lines). Where reading or writing fails nothing more is read.
 #![tactic(auto)]
 
-ghost use Rattle.std.specs.Prelude.{◌≡◌, ◌+◌, ◌≤◌, ◌<◌, length};
+ghost use Rattle.std.specs.Prelude.{◌≡◌, ◌+◌, ◌≤◌, ◌<◌, length, IfSome};
 ghost use Rattle.pair_lines.specs.Lines.{pairs_page};
 ghost use Rattle.desk_text.specs.Meaning.{max_line, max_words};
 ghost use Rattle.desk.specs.Held.{Held};
@@ -10,52 +10,11 @@ ghost use Rattle.desk.specs.Held.{Held};
 use desk::Desk;
 use desk_heads::MAX_WORDS;
 use pair_lines::PAGE;
-use streams::Reading;
 
 // The longest line with CR LF: a buffer that is full and has no LF holds more bytes of one line than a line may have.
 const ROOM: usize = 16386;
 
-// Zeros, room for a line.
-fn room() -> [u8; ROOM]
-    ensures { length result ≡ max_line + 2 }
-{
-    [0; ROOM]
-}
-
-// Zeros, room for the numbers that a line can have, as distances, as parents, as numerators.
-fn no_numbers() -> [u16; MAX_WORDS]
-    ensures { length result ≡ max_words }
-{
-    [0; MAX_WORDS]
-}
-
-fn no_bytes() -> [u8; MAX_WORDS]
-    ensures { length result ≡ max_words }
-{
-    [0; MAX_WORDS]
-}
-
-fn no_numerators() -> [i64; MAX_WORDS]
-    ensures { length result ≡ max_words }
-{
-    [0; MAX_WORDS]
-}
-
-// Zeros, room for every answer.
-fn page() -> [u8; PAGE]
-    ensures { length result ≡ pairs_page }
-{
-    [0; PAGE]
-}
-
-// The desk after a line, and whether its answer went out.
-#[derive(Clone, Copy)]
-struct Turned {
-    desk: Desk,
-    written: bool,
-}
-
-// One line: its answer goes out before anything more is read.
+// One line: its answer goes out before anything more is read. The desk after it, where the answer went out.
 fn turn(
     rt: &(impl Print + Eprint),
     desk: Desk,
@@ -65,28 +24,25 @@ fn turn(
     parents: &mut [u8],
     numerators: &mut [i64],
     page: &mut [u8],
-) -> Turned
+) -> Option<Desk>
     requires held { Held desk }
     requires max_words_in_bounds { (max_words ≤ length numbers.old) × (max_words ≤ length distances.old) × (max_words ≤ length parents.old) × (max_words ≤ length numerators.old) × (pairs_page ≤ length page.old) }
-    ensures { Held result.desk }
+    ensures { IfSome result (λ d. Held d) }
 {
     let told = desk_turn::tell(desk, line, numbers, distances, parents, numerators, page);
-    let next = told.desk;
-    let written = streams::put_out(rt, told.length, page);
-    Turned {
-        desk: next,
-        written,
+    if !streams::put_out(rt, told.length, page) {
+        return None;
     }
+    Some(told.desk)
 }
 
-// Where the lines of a buffer leave off: the desk, the first byte that is not answered, whether a line began before the buffer's first
-// byte, and whether every answer went out.
+// Where the lines of a buffer leave off: the desk, the first byte that is not answered, and whether a line began before the buffer's
+// first byte.
 #[derive(Clone, Copy)]
 struct Left {
     desk: Desk,
     at: usize,
     long: bool,
-    written: bool,
 }
 
 // The line from one place to another, or a line that began before the buffer.
@@ -102,10 +58,10 @@ fn one(
     parents: &mut [u8],
     numerators: &mut [i64],
     page: &mut [u8],
-) -> Turned
+) -> Option<Desk>
     requires held { Held desk }
     requires from_le_to { (from ≤ to) × (to ≤ length space.now) × (max_words ≤ length numbers.old) × (max_words ≤ length distances.old) × (max_words ≤ length parents.old) × (max_words ≤ length numerators.old) × (pairs_page ≤ length page.old) }
-    ensures { Held result.desk }
+    ensures { IfSome result (λ d. Held d) }
 {
     if long {
         return turn(
@@ -125,7 +81,8 @@ fn one(
 }
 
 // Every line of the buffer's first `count` bytes whose end has come. A line that began before the buffer is too long, whatever it holds:
-// it is answered as any line too long is, by the whole buffer. The page is lent, for it is large and need not be blank.
+// it is answered as any line too long is, by the whole buffer. The page is lent, for it is large and need not be blank. Nothing where an
+// answer did not go out.
 fn lines(
     rt: &(impl Print + Eprint),
     desk: Desk,
@@ -133,61 +90,40 @@ fn lines(
     space: &[u8],
     count: usize,
     page: &mut [u8],
-) -> Left
+) -> Option<Left>
     requires held { Held desk }
     requires count_in_bounds { (count ≤ length space.now) × (pairs_page ≤ length page.old) }
-    ensures { Held result.desk × (result.at ≤ count) }
+    ensures { IfSome result (λ left. Held left.desk × (left.at ≤ count)) }
 {
-    let mut numbers = no_numbers();
-    let mut distances = no_numbers();
-    let mut parents = no_bytes();
-    let mut numerators = no_numerators();
+    let mut numbers: [u16; MAX_WORDS] = arrays::filled(0);
+    let mut distances: [u16; MAX_WORDS] = arrays::filled(0);
+    let mut parents: [u8; MAX_WORDS] = arrays::filled(0);
+    let mut numerators: [i64; MAX_WORDS] = arrays::filled(0);
     let mut now = desk;
     let mut long = began;
     let mut at = 0;
-    while at < count {
-        let found = desk_feed::line_at(&space[..count], at);
-        if !found.whole {
-            return Left {
-                desk: now,
-                at,
-                long,
-                written: true,
-            };
-        }
-        let end = found.end;
-        let turned = one(
+    while let Some(found) = desk_feed::line_at(&space[..count], at) {
+        now = one(
             rt,
             now,
             long,
             space,
             at,
-            end,
+            found.end,
             &mut numbers,
             &mut distances,
             &mut parents,
             &mut numerators,
             page,
-        );
-        let next = turned.desk;
-        now = next;
+        )?;
         long = false;
         at = found.next;
-        if !turned.written {
-            return Left {
-                desk: now,
-                at,
-                long,
-                written: false,
-            };
-        }
     }
-    Left {
+    Some(Left {
         desk: now,
         at,
         long,
-        written: true,
-    }
+    })
 }
 
 // The last line, which has no end: all that is left of the buffer.
@@ -202,10 +138,10 @@ fn last_line(
     requires held { Held desk }
     requires count_in_bounds { (count ≤ length space.now) × (pairs_page ≤ length page.old) }
 {
-    let mut numbers = no_numbers();
-    let mut distances = no_numbers();
-    let mut parents = no_bytes();
-    let mut numerators = no_numerators();
+    let mut numbers: [u16; MAX_WORDS] = arrays::filled(0);
+    let mut distances: [u16; MAX_WORDS] = arrays::filled(0);
+    let mut parents: [u8; MAX_WORDS] = arrays::filled(0);
+    let mut numerators: [i64; MAX_WORDS] = arrays::filled(0);
     one(
         rt,
         desk,
@@ -244,32 +180,25 @@ fn kept(count: usize, long: bool) -> Rest
 
 fn main(rt: HostRuntime) {
     let mut desk = desk::empty();
-    let mut space = room();
-    let mut page = page();
+    let mut space: [u8; ROOM] = arrays::filled(0);
+    let mut page: [u8; PAGE] = arrays::filled(0);
     let mut count = 0;
     let mut long = false;
-    let mut reads = 0u64;
-    while reads < 18_446_744_073_709_551_615 {
-        reads += 1;
-        match streams::take_more(&rt, &mut space, count) {
-            Reading::On(next) => {
-                let left = lines(&rt, desk, long, &space, next, &mut page);
-                if !left.written {
-                    return;
-                }
-                let after = left.desk;
-                desk = after;
-                let moved = desk_feed::move_front(&mut space, left.at, next);
-                let rest = kept(moved, left.long);
-                count = rest.count;
-                long = rest.long;
-            }
-            Reading::Over(taken) => {
-                if taken.whole {
-                    last_line(&rt, desk, long, &space, count, &mut page);
-                }
-                return;
-            }
+    for _ in 0..u64::MAX {
+        let Some(next) = streams::take_more(&rt, &mut space, count) else {
+            return;
+        };
+        if next == count {
+            last_line(&rt, desk, long, &space, count, &mut page);
+            return;
         }
+        let Some(left) = lines(&rt, desk, long, &space, next, &mut page) else {
+            return;
+        };
+        desk = left.desk;
+        let moved = desk_feed::move_front(&mut space, left.at, next);
+        let rest = kept(moved, left.long);
+        count = rest.count;
+        long = rest.long;
     }
 }

@@ -1,5 +1,5 @@
--- The direct fit of a sheet, from what its reader handed over: a refusal is the sheet's (`refused-sheet`), and so is the answer to the
--- degrees of its tree (`degrees_asked`); a fit has its numbers and its three tables (`fitted-sheet`).
+-- The direct fit of a sheet, from what its reader handed over: the answer to the degrees of its tree is the sheet's (`degrees_asked`); a
+-- fit has its numbers and its three tables (`fitted-sheet`).
 use mathlib.Core.Path.{◌≡◌, refl, sym, ◌∙◌, ap}
 use mathlib.Core.List.{List, ◌++◌}
 use Prim.Native.Nat.{ℕ, ◌+◌, ◌-◌, ◌≤◌}
@@ -9,11 +9,8 @@ use lib.ListN.{length, get_or, take, drop, length-drop, length-append, get_or-ap
 use lib.Seq.{length-take-le, get_or-drop, get_or-append-add}
 use Rattle.exact.specs.Table.{table}
 use Rattle.exact.proofs.Fill.{length-table, get_or_table, get_or_table_const}
-use Rattle.verdict.specs.Answer.{pass, answer_of, refusal_of}
-use Rattle.verdict.specs.declared.Refusal.{Refusal}
-use Rattle.verdict.specs.declared.Verdict.{Verdict}
-use Rattle.verdict.specs.declared.Verdict.TheVariants.{Accepted, Refused}
-use Rattle.verdict.proofs.Answers.{not_pass}
+use Rattle.verdict.specs.Answer.{Answer, pass}
+use Rattle.std.specs.Prelude.{Ok}
 use Rattle.tree_theory.specs.Limits.{max_edges}
 use Rattle.tree_theory.specs.EdgeTable.{EdgeTable}
 use Rattle.tree_theory.proofs.EdgeTables.{front_kept}
@@ -27,11 +24,7 @@ use Rattle.reading.specs.Holds.{strains_of, distances_of, parents_of}
 use Rattle.reading.specs.Reads.{SheetAnswer}
 use Rattle.reading.proofs.Parts.{Parts, accepted, read-parts, of_parts, to-parts}
 use Rattle.reading.proofs.Whole.{two-asked}
-use Rattle.unfitted_sheet.specs.declared.UnfittedFit.{UnfittedFit}
-use Rattle.unfitted_sheet.specs.Fits.{unfitted_tests, Fitted, Unfitted, UnfittedAnswer}
-
-pub refused-sheet : (s : List ℕ) (x : UnfittedFit) (q : Refusal) → x.fit.verdict ≡ Refused q → Unfitted x → refusal_of q ≡ unfitted_tests s → UnfittedAnswer s x
-refused-sheet s x q e u g = record { answer = ap answer_of e ∙ g; fitted = λ z. absurd (not_pass q (g ∙ z)); unfitted = λ _. u }
+use Rattle.unfitted_sheet.specs.Fits.{unfitted_tests, UnfittedAnswer}
 
 -- a table of one value: its front has room for each edge, and what is behind the front has that value
 module _ {A : Type 0} (d : A) (zeros : List A) (blank : zeros ≡ table max_edges (λ _. d)) (k : ℕ) where
@@ -51,9 +44,9 @@ module _ {A : Type 0} (d : A) (zeros : List A) (blank : zeros ≡ table max_edge
     pub front-size : k ≡ length (take k zeros)
     front-size = sym (length-take-le k zeros front-there)
 
-module _ (s : List ℕ) (r : Sheet) (a : SheetAnswer 2 s r) (e : r.verdict ≡ Accepted) where
+module _ (s : List ℕ) (r : Sheet) (a : SheetAnswer 2 s (Ok r)) where
   pub parts : Parts s r
-  parts = read-parts 2 s r (omega arith) a e
+  parts = read-parts 2 s r (omega arith) a
 
   few : length (parents_of s) ≤ max_edges
   few = omega (arith, parts.shaped.tree.most, parts.shaped.tree.few)
@@ -67,50 +60,42 @@ module _ (s : List ℕ) (r : Sheet) (a : SheetAnswer 2 s r) (e : r.verdict ≡ A
   pub parents-size : r.end - r.parents ≡ length (take (r.end - r.parents) (drop r.parents s))
   parents-size = parts.count ∙ sym (ap length parts.parents)
 
-  module _ (v : Verdict) (h : answer_of v ≡ direct_only r.strains (take r.pairs r.distances) (take (r.end - r.parents) (drop r.parents s))) where
-    pub degrees_asked : answer_of v ≡ unfitted_tests s
-    degrees_asked =
-        of_parts parts (λ N ds ps. answer_of v ≡ direct_only N ds ps) h
-        ∙ sym (two-asked s (accepted 2 s r a e) (direct_only (strains_of s) (distances_of s) (parents_of s)))
+  pub degrees_asked : (k : Answer) → k ≡ direct_only r.strains (take r.pairs r.distances) (take (r.end - r.parents) (drop r.parents s)) → k ≡ unfitted_tests s
+  degrees_asked k h =
+      of_parts parts (λ N ds ps. k ≡ direct_only N ds ps) h
+      ∙ sym (two-asked s (accepted 2 s r a) (direct_only (strains_of s) (distances_of s) (parents_of s)))
 
-    module _ (f : v ≡ Accepted) where
-      pub resolved : direct_only r.strains (take r.pairs r.distances) (take (r.end - r.parents) (drop r.parents s)) ≡ pass
-      resolved = sym h ∙ ap answer_of f
+  module _ (h : pass ≡ direct_only r.strains (take r.pairs r.distances) (take (r.end - r.parents) (drop r.parents s)))
+      (blank blank' : List ℤ) (none : List ℕ) (b : blank ≡ table max_edges (λ _. pos 0)) (c : none ≡ table max_edges (λ _. 0)) (d : blank' ≡ table max_edges (λ _. pos 0))
+      (ns ms : List ℤ) (es : List ℕ) (x : DirectFit)
+      (p : Resolves r.strains (take r.pairs r.distances) (take (r.end - r.parents) (drop r.parents s)) ns es ms x) where
+    fit : Resolves (strains_of s) (distances_of s) (parents_of s) ns es ms x
+    fit = of_parts parts (λ N ds ps. Resolves N ds ps ns es ms x) p
 
-      zero : unfitted_tests s ≡ pass
-      zero = sym degrees_asked ∙ ap answer_of f
+    behind : {A : Type 0} (y : A) (l : List A) → l ≡ table max_edges (λ _. y) → length (drop (r.end - r.parents) l) ≡ max_edges - length (parents_of s)
+    behind y l h = rest-size y l h (r.end - r.parents) ∙ ap (λ (k : ℕ). max_edges - k) parts.count
 
-      module _ (blank blank' : List ℤ) (none : List ℕ) (b : blank ≡ table max_edges (λ _. pos 0)) (c : none ≡ table max_edges (λ _. 0)) (d : blank' ≡ table max_edges (λ _. pos 0))
-          (ns ms : List ℤ) (es : List ℕ) (x : DirectFit) (g : x.verdict ≡ Accepted)
-          (p : Resolves r.strains (take r.pairs r.distances) (take (r.end - r.parents) (drop r.parents s)) ns es ms x) where
-        fit : Resolves (strains_of s) (distances_of s) (parents_of s) ns es ms x
-        fit = of_parts parts (λ N ds ps. Resolves N ds ps ns es ms x) p
+    kept : (f : ℕ → ℤ) (front l : List ℤ) → front ≡ table (length (parents_of s)) f → l ≡ table max_edges (λ _. pos 0)
+        → EdgeTable (length (parents_of s)) f (front ++ drop (r.end - r.parents) l)
+    kept f front l h b = front_kept (pos 0) (length (parents_of s)) f front (drop (r.end - r.parents) l) few h (rest-blank (pos 0) l b (r.end - r.parents)) (behind (pos 0) l b)
 
-        behind : {A : Type 0} (y : A) (l : List A) → l ≡ table max_edges (λ _. y) → length (drop (r.end - r.parents) l) ≡ max_edges - length (parents_of s)
-        behind y l h = rest-size y l h (r.end - r.parents) ∙ ap (λ (k : ℕ). max_edges - k) parts.count
-
-        kept : (f : ℕ → ℤ) (front l : List ℤ) → front ≡ table (length (parents_of s)) f → l ≡ table max_edges (λ _. pos 0)
-            → EdgeTable (length (parents_of s)) f (front ++ drop (r.end - r.parents) l)
-        kept f front l h b = front_kept (pos 0) (length (parents_of s)) f front (drop (r.end - r.parents) l) few h (rest-blank (pos 0) l b (r.end - r.parents)) (behind (pos 0) l b)
-
-        pub fitted-sheet : UnfittedAnswer s (record {
-          fit = x;
-          strains = r.strains;
-          edges = r.end - r.parents;
-          tops = ns ++ drop (r.end - r.parents) blank;
-          bottoms = es ++ drop (r.end - r.parents) none;
-          rounded = ms ++ drop (r.end - r.parents) blank';
-        })
-        fitted-sheet = record {
-          answer = ap answer_of g ∙ sym zero;
-          fitted = λ _. record {
-            strains = parts.strains;
-            edges = parts.count;
-            few = few;
-            resolves = record { tops = refl; bottoms = refl; rounded = refl; r = fit.r; h = fit.h; direct = fit.direct };
-            tops = kept (top_of (strains_of s) (distances_of s) (parents_of s)) ns blank fit.tops b;
-            bottoms = front_kept 0 (length (parents_of s)) (bottom_of (strains_of s) (distances_of s) (parents_of s)) es (drop (r.end - r.parents) none) few fit.bottoms (rest-blank 0 none c (r.end - r.parents)) (behind 0 none c);
-            rounded = kept (thousandth_of (strains_of s) (distances_of s) (parents_of s)) ms blank' fit.rounded d;
-          };
-          unfitted = λ n. absurd (n zero);
-        }
+    pub fitted-sheet : UnfittedAnswer s (Ok (record {
+      fit = x;
+      strains = r.strains;
+      edges = r.end - r.parents;
+      tops = ns ++ drop (r.end - r.parents) blank;
+      bottoms = es ++ drop (r.end - r.parents) none;
+      rounded = ms ++ drop (r.end - r.parents) blank';
+    }))
+    fitted-sheet = record {
+      answer = degrees_asked pass h;
+      fitted = record {
+        strains = parts.strains;
+        edges = parts.count;
+        few = few;
+        resolves = record { tops = refl; bottoms = refl; rounded = refl; r = fit.r; h = fit.h; direct = fit.direct };
+        tops = kept (top_of (strains_of s) (distances_of s) (parents_of s)) ns blank fit.tops b;
+        bottoms = front_kept 0 (length (parents_of s)) (bottom_of (strains_of s) (distances_of s) (parents_of s)) es (drop (r.end - r.parents) none) few fit.bottoms (rest-blank 0 none c (r.end - r.parents)) (behind 0 none c);
+        rounded = kept (thousandth_of (strains_of s) (distances_of s) (parents_of s)) ms blank' fit.rounded d;
+      };
+    }

@@ -1,8 +1,9 @@
 -- The direct fit of a sheet without lengths: the answer to its bytes, and the fit of what its two records hold, with the lengths in three
 -- tables.
-use Rattle.std.specs.Prelude.{◌≡◌, List, ℕ, ◌≤◌, ◌<◌, pos, length, get_or}
+use Rattle.std.specs.Prelude.{◌≡◌, List, ℕ, ◌≤◌, Result, IfOk, length}
 use Rattle.exact.specs.Table.{table}
-use Rattle.verdict.specs.Answer.{Answer, pass, answer_of, test, ◌or_else◌}
+use Rattle.verdict.specs.Answer.{Answer, answer_of, test, ◌or_else◌}
+use Rattle.verdict.specs.declared.Refusal.{Refusal}
 use Rattle.matrix.specs.Tests.{matrix_tests}
 use Rattle.tree_theory.specs.Limits.{max_edges}
 use Rattle.tree_theory.specs.EdgeTable.{EdgeTableOf, EdgeTable}
@@ -35,18 +36,7 @@ pub record Fitted (s : List ℕ) (r : UnfittedFit) : Type 0 where
   pub bottoms : EdgeTableOf 0 (length (parents_of s)) (bottom_of (strains_of s) (distances_of s) (parents_of s)) r.bottoms
   pub rounded : EdgeTable (length (parents_of s)) (thousandth_of (strains_of s) (distances_of s) (parents_of s)) r.rounded
 
--- a refused one: zeros
-pub record Unfitted (x : UnfittedFit) : Type 0 where
-  pub r : x.fit.r ≡ pos 0
-  pub h : x.fit.h ≡ pos 0
-  pub strains : x.strains ≡ 0
-  pub edges : x.edges ≡ 0
-  pub tops : x.tops ≡ table max_edges (λ _. pos 0)
-  pub bottoms : x.bottoms ≡ table max_edges (λ _. 0)
-  pub rounded : x.rounded ≡ table max_edges (λ _. pos 0)
-
 -- the whole answer
-pub record UnfittedAnswer (s : List ℕ) (r : UnfittedFit) : Type 0 where
-  pub answer : answer_of r.fit.verdict ≡ unfitted_tests s
-  pub fitted : unfitted_tests s ≡ pass → Fitted s r
-  pub unfitted : (unfitted_tests s ≡ pass → ⊥) → Unfitted r
+pub record UnfittedAnswer (s : List ℕ) (r : Result UnfittedFit Refusal) : Type 0 where
+  pub answer : answer_of r ≡ unfitted_tests s
+  pub fitted : IfOk r (λ x. Fitted s x)

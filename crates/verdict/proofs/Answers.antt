@@ -8,8 +8,8 @@ use Rattle.verdict.specs.declared.Reason.{Reason}
 use Rattle.verdict.specs.declared.Reason.TheVariants.{SheetTooLong, RecordCut, WrongKind, WrongCounts, BytesLeft, Strains, Distance, Vertices, Parent, Children, Edges, Denominator, Numerator, Remainders, Buffer, PastRoot, Text, Decimal, Halves, Bench, Nothing, Negative, ZeroEdge, Pair, Unresolved, Unmeasured, Matrices, Newick, Names}
 use Rattle.verdict.specs.declared.Place.{Place}
 use Rattle.verdict.specs.declared.Refusal.{Refusal}
-use Rattle.verdict.specs.declared.Verdict.{Verdict}
-use Rattle.verdict.specs.declared.Verdict.TheVariants.{Accepted, Refused}
+use Rattle.verdict.specs.Answer.{Verdict}
+use Rattle.std.specs.Prelude.{Result, Ok, Err, IfOk, IsErr, IsErrAnd}
 use Rattle.verdict.specs.Answer.{Answer, fault, pass, answer_of, refusal_of, reason_number, test, test_at, at_first, ◌or_else◌}
 use Rattle.verdict.specs.Table.{some, first}
 use Rattle.verdict.proofs.Table.{some_first, lowest, first_cong, some_cong}
@@ -27,10 +27,10 @@ reason_of k =
     Names))))))))))))))))))))))))))))
 
 abbrev verdict_of : Answer → Verdict
-verdict_of pass = Accepted
-verdict_of (fault k p) = Refused (record { reason = reason_of k; place = p })
+verdict_of pass = Ok tt
+verdict_of (fault k p) = Err (record { reason = reason_of k; place = p })
 
-refused-back : (x : Reason) (p : Place) → verdict_of (fault (reason_number x) p) ≡ Refused (record { reason = x; place = p })
+refused-back : (x : Reason) (p : Place) → verdict_of (fault (reason_number x) p) ≡ Err (record { reason = x; place = p })
 refused-back SheetTooLong p = refl
 refused-back RecordCut p = refl
 refused-back WrongKind p = refl
@@ -62,12 +62,16 @@ refused-back Newick p = refl
 refused-back Names p = refl
 
 answer_back : (v : Verdict) → verdict_of (answer_of v) ≡ v
-answer_back Accepted = refl
-answer_back (Refused r) = refused-back r.reason r.place
+answer_back (Ok tt) = refl
+answer_back (Err r) = refused-back r.reason r.place
 
 -- two verdicts with one answer are the same verdict
 pub same_answer : (v w : Verdict) → answer_of v ≡ answer_of w → v ≡ w
 same_answer v w e = sym (answer_back v) ∙ ap verdict_of e ∙ answer_back w
+
+-- two refusals with one answer are the same
+pub same_refusal : (q r : Refusal) → refusal_of q ≡ refusal_of r → q ≡ r
+same_refusal q r e = let v : Err q ≡ Err r = same_answer (Err q) (Err r) e in cc
 
 -- no refusal is an answer that passes
 pub refuses : (k : ℕ) (p : Place) → fault k p ≡ pass → ⊥
@@ -79,6 +83,24 @@ refuses k p e = subst refusal e tt
 
 pub not_pass : (r : Refusal) → refusal_of r ≡ pass → ⊥
 not_pass r e = refuses _ _ e
+
+-- two results with one answer are the same where what is accepted is
+pub one_result : {A : Type 0} (P Q : A → Type 0) → ((a b : A) → P a → Q b → a ≡ b) → (r s : Result A Refusal) → answer_of r ≡ answer_of s
+    → IfOk r P → IfOk s Q → r ≡ s
+one_result P Q h (Ok a) (Ok b) e p q = ap Ok (h a b p q)
+one_result P Q h (Ok a) (Err r) e p q = absurd (not_pass r (sym e))
+one_result P Q h (Err r) (Ok a) e p q = absurd (not_pass r e)
+one_result P Q h (Err q) (Err r) e p s = ap Err (same_refusal q r e)
+
+-- a result that passes has a value
+pub value_of : {A : Type 0} (P : A → Type 0) (r : Result A Refusal) → answer_of r ≡ pass → IfOk r P → (x : A) × (r ≡ Ok x) × P x
+value_of P (Ok x) e p = (x, refl, p)
+value_of P (Err q) e p = absurd (not_pass q e)
+
+-- a refusal that `?` hands on is the one that came
+pub handed_on : {A : Type 0} (P : Result A Refusal → Type 0) (q : Refusal) (r : Result A Refusal) → IsErr r × IsErrAnd r (λ e. e ≡ q) → P (Err q) → P r
+handed_on P q (Ok x) h p = absurd h.1
+handed_on P q (Err e) h p = subst (λ (x : Refusal). P (Err x)) (sym h.1) p
 
 pub passes : (a : Answer) → Dec (a ≡ pass)
 passes pass = yes refl
@@ -94,10 +116,10 @@ pub pass_or_else : {a b : Answer} → a ≡ pass → b ≡ pass → (a or_else b
 pass_or_else e f = rw (e, f)
 
 -- a row of tests by the answer to its first: a refusal is the row's answer, otherwise the rest decides
-pub refused-row : (r : Refusal) (v : Verdict) (a b : Answer) → v ≡ Refused r → answer_of v ≡ a → refusal_of r ≡ (a or_else b)
+pub refused-row : {A : Type 0} (r : Refusal) (v : Result A Refusal) (a b : Answer) → v ≡ Err r → answer_of v ≡ a → refusal_of r ≡ (a or_else b)
 refused-row r v a b e f = ap (λ (z : Answer). z or_else b) (sym (ap answer_of e) ∙ f)
 
-pub accepted-row : (v : Verdict) (a b : Answer) → v ≡ Accepted → answer_of v ≡ a → b ≡ (a or_else b)
+pub accepted-row : {A : Type 0} {x : A} (v : Result A Refusal) (a b : Answer) → v ≡ Ok x → answer_of v ≡ a → b ≡ (a or_else b)
 accepted-row v a b e f = ap (λ (z : Answer). z or_else b) (sym (ap answer_of e) ∙ f)
 
 -- tests in a row may be grouped, and asked once more

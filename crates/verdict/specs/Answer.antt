@@ -5,8 +5,7 @@ use Rattle.verdict.specs.declared.Reason.TheVariants.{SheetTooLong, RecordCut, W
 use Rattle.verdict.specs.declared.Place.{Place}
 use Rattle.verdict.specs.declared.Place.TheVariants.{Nowhere}
 use Rattle.verdict.specs.declared.Refusal.{Refusal}
-use Rattle.verdict.specs.declared.Verdict.{Verdict}
-use Rattle.verdict.specs.declared.Verdict.TheVariants.{Accepted, Refused}
+use Rattle.std.specs.Prelude.{Result, Ok, Err}
 use Rattle.verdict.specs.Table.{first}
 
 -- the number of each reason
@@ -41,6 +40,10 @@ reason_number Matrices = 27
 reason_number Newick = 28
 reason_number Names = 29
 
+-- what a test gives
+abbrev pub Verdict : Type 0
+Verdict = Result (Unit {0}) Refusal
+
 -- an answer: it passes, or it is a number of refusal at a place
 pub data Answer : Type 0 where
   pass : Answer
@@ -54,11 +57,11 @@ number (fault k p) = k
 abbrev pub refusal_of : Refusal → Answer
 refusal_of r = fault (reason_number r.reason) r.place
 
-abbrev pub answer_of : Verdict → Answer
-answer_of Accepted = pass
-answer_of (Refused r) = refusal_of r
+abbrev pub answer_of : {A : Type 0} → Result A Refusal → Answer
+answer_of (Ok _) = pass
+answer_of (Err r) = refusal_of r
 
-abbrev pub number_of : Verdict → ℕ
+abbrev pub number_of : {A : Type 0} → Result A Refusal → ℕ
 number_of v = number (answer_of v)
 
 -- a test: the number k at a place where it applies, pass where it does not

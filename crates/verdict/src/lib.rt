@@ -6,7 +6,7 @@ ghost use Rattle.std.specs.Prelude.{◌≡◌};
 ghost use Rattle.verdict.specs.Answer.{number_of, reason_number, answer_of, ◌or_else◌};
 
 // Why something is refused: a case for each number of RULES, Numbers of refusal, in the order of the numbers.
-#[derive(Clone, Copy)]
+#[derive(Clone, Copy, PartialEq, Eq)]
 pub enum Reason {
     SheetTooLong,
     RecordCut,
@@ -63,59 +63,55 @@ pub enum Rule {
     Drawable,
 }
 
-#[derive(Clone, Copy)]
-pub enum Verdict {
-    Accepted,
-    Refused(Refusal),
-}
+// The answer of a test: it passes, or it is refused.
+pub type Verdict = Result<(), Refusal>;
 
 // The number of a refusal.
-fn reason_number(reason: Reason) -> u32
-    ensures { result ≡ reason_number reason }
-{
-    match reason {
-        Reason::SheetTooLong => 1,
-        Reason::RecordCut => 2,
-        Reason::WrongKind => 3,
-        Reason::WrongCounts => 4,
-        Reason::BytesLeft => 5,
-        Reason::Strains => 6,
-        Reason::Distance => 7,
-        Reason::Vertices => 8,
-        Reason::Parent => 9,
-        Reason::Children => 10,
-        Reason::Edges => 11,
-        Reason::Denominator => 12,
-        Reason::Numerator => 13,
-        Reason::Remainders => 14,
-        Reason::Buffer => 15,
-        Reason::PastRoot => 16,
-        Reason::Text => 17,
-        Reason::Decimal => 18,
-        Reason::Halves => 19,
-        Reason::Bench => 20,
-        Reason::Nothing => 21,
-        Reason::Negative => 22,
-        Reason::ZeroEdge => 23,
-        Reason::Pair => 24,
-        Reason::Unresolved => 25,
-        Reason::Unmeasured => 26,
-        Reason::Matrices => 27,
-        Reason::Newick => 28,
-        Reason::Names => 29,
+impl From<Reason> for u32 {
+    ghost from_gives = { λ reason result. result ≡ reason_number reason };
+
+    fn from(reason: Reason) -> u32 {
+        match reason {
+            Reason::SheetTooLong => 1,
+            Reason::RecordCut => 2,
+            Reason::WrongKind => 3,
+            Reason::WrongCounts => 4,
+            Reason::BytesLeft => 5,
+            Reason::Strains => 6,
+            Reason::Distance => 7,
+            Reason::Vertices => 8,
+            Reason::Parent => 9,
+            Reason::Children => 10,
+            Reason::Edges => 11,
+            Reason::Denominator => 12,
+            Reason::Numerator => 13,
+            Reason::Remainders => 14,
+            Reason::Buffer => 15,
+            Reason::PastRoot => 16,
+            Reason::Text => 17,
+            Reason::Decimal => 18,
+            Reason::Halves => 19,
+            Reason::Bench => 20,
+            Reason::Nothing => 21,
+            Reason::Negative => 22,
+            Reason::ZeroEdge => 23,
+            Reason::Pair => 24,
+            Reason::Unresolved => 25,
+            Reason::Unmeasured => 26,
+            Reason::Matrices => 27,
+            Reason::Newick => 28,
+            Reason::Names => 29,
+        }
     }
 }
 
 // The number that a customer reads: 0 for what is accepted, otherwise the number of refusal.
-pub fn number(v: Verdict) -> u32
-    ensures { result ≡ number_of v }
+pub fn number<T>(answer: &Result<T, Refusal>) -> u32
+    ensures { result ≡ number_of answer.now }
 {
-    match v {
-        Verdict::Accepted => 0,
-        Verdict::Refused(refusal) => {
-            let reason = refusal.reason;
-            reason_number(reason)
-        }
+    match answer {
+        Ok(_) => 0,
+        Err(refusal) => u32::from(refusal.reason),
     }
 }
 
@@ -123,8 +119,5 @@ pub fn number(v: Verdict) -> u32
 pub fn or_else(a: Verdict, b: Verdict) -> Verdict
     ensures { answer_of result ≡ (answer_of a or_else answer_of b) }
 {
-    match a {
-        Verdict::Accepted => b,
-        Verdict::Refused(refusal) => Verdict::Refused(refusal),
-    }
+    a.and(b)
 }

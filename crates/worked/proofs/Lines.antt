@@ -6,7 +6,7 @@ use lib.IntN.{ℤ, pos, negsuc}
 use lib.ListN.{get_or}
 use Rattle.verdict.specs.declared.Place.TheVariants.{Nowhere, Byte, Vertex, Edge, EdgeSum}
 use Rattle.verdict.specs.declared.Rule.TheVariants.{Plain}
-use Rattle.mean.specs.declared.Mean.TheVariants.{None, Over}
+use Rattle.std.specs.Prelude.{Some, None}
 use Rattle.writing.specs.Text.{digits}
 use Rattle.lines.specs.Lines.{fields, line, mean_line, refused_word, refused_line, edge_lines, fit_text, resolved_text, fields_by, fit_text_by, edge_lines_by}
 
@@ -24,7 +24,7 @@ sheet-a =
     ++ (109 ∷ 101 ∷ 97 ∷ 110 ∷ 32 ∷ 50 ∷ 32 ∷ 50 ∷ 10 ∷ [])
 
 pub print_of-a :
-    fit_text Plain 4 5 2 (λ v. get_or (pos 3 ∷ pos 3 ∷ pos 3 ∷ pos 7 ∷ pos 7 ∷ []) v (pos 0)) (λ v. get_or (pos 1500 ∷ pos 1500 ∷ pos 1500 ∷ pos 3500 ∷ pos 3500 ∷ []) v (pos 0)) (pos 23) (pos 2) (pos 1000000) (pos 44) (Over (pos 2))
+    fit_text Plain 4 5 2 (λ v. get_or (pos 3 ∷ pos 3 ∷ pos 3 ∷ pos 7 ∷ pos 7 ∷ []) v (pos 0)) (λ v. get_or (pos 1500 ∷ pos 1500 ∷ pos 1500 ∷ pos 3500 ∷ pos 3500 ∷ []) v (pos 0)) (pos 23) (pos 2) (pos 1000000) (pos 44) (Some (pos 2))
     ≡ sheet-a
 unfolding digits fields_by edge_lines_by fit_text_by
 print_of-a = refl

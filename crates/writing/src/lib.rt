@@ -19,12 +19,10 @@ pub fn put_word(text: &mut [u8], at: usize, word: &[u8]) -> usize
     requires { at + length word.now ≤ length text.old }
     ensures { Wrote text.old text.new at word.now result }
 {
-    let mut k = 0;
-    while k < word.len() {
-        text[at + k] = word[k];
-        k += 1;
+    for (k, byte) in word.iter().enumerate() {
+        text[at + k] = *byte;
     }
-    at + k
+    at + word.len()
 }
 
 // A number in decimal.

@@ -8,6 +8,3 @@ use Rattle.balancing.proofs.pass_over.Given as goal
 
 abbrev pub invariant-loop-v : goal.invariant-loop-v
 invariant-loop-v l = (l.v ≤ l.edges) × ((i : ℕ) → i < l.v → fault_by l.pass (entry_of l.numerators i) (entry_of l.sums i) ≡ false)
-
-abbrev pub decreases-loop-v : goal.decreases-loop-v
-decreases-loop-v l = l.edges - l.v

@@ -8,4 +8,4 @@ pub returns-then-is_missing : goal.returns-then-is_missing
 returns-then-is_missing c = cell_missing (drop c.args.at c.args.text.now) (sym c.is_missing.ensures ∙ c.if-is_missing.true)
 
 pub returns : goal.returns
-returns c = cell_decimal (drop c.args.at c.args.text.now) c.decimal.result.out c.decimal.result.entry (sym c.is_missing.ensures ∙ c.if-is_missing.false) c.decimal.ensures
+returns c = cell_decimal (drop c.args.at c.args.text.now) c.decimal.result (sym c.is_missing.ensures ∙ c.if-is_missing.false) c.decimal.ensures

@@ -1,10 +1,6 @@
 -- A turn reads one cell: the gap before it, its bytes, what it is. The first that is not of the form ends the row.
-use Prim.Native.Nat.{◌-◌}
 use Rattle.cells.proofs.Rows.{RowAt}
 use Rattle.cells.proofs.cells.Given as goal
 
 abbrev pub invariant-loop-c : goal.invariant-loop-c
 invariant-loop-c l = RowAt l.text l.at l.n l.base l.initial.entries l.entries l.end l.out l.c
-
-abbrev pub decreases-loop-c : goal.decreases-loop-c
-decreases-loop-c l = l.n - l.c

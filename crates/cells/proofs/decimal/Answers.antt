@@ -3,9 +3,7 @@ use mathlib.Core.Path.{◌≡◌}
 use mathlib.Core.Logic.{◌≢◌}
 use lib.ListN.{get_or}
 use mathlib.Core.Path.{sym, ◌∙◌}
-use native.Mathlib.Omega.{arith}
 use lib.ListN.{drop}
-use Rattle.digits.proofs.Reading.{inside}
 use Rattle.cells.proofs.Units.{seen_as, places-none, units_none, places-some, units_some}
 use Rattle.cells.proofs.decimal.Goals as goal
 
@@ -13,9 +11,6 @@ pub returns-then-byte_at-ne46 : goal.returns-then-byte_at-ne46
 returns-then-byte_at-ne46 c = let dotless : get_or c.args.text.now c.digits_end-point.result 0 ≢ 46 = λ e. c.if-byte_at-ne46.true (c.byte_at.ensures ∙ e) in
     seen_as (drop c.args.at c.args.text.now) 0 c.scaled.result c.judged.result (sym (places-none c.args.text.now c.args.at c.digits_end-point.result c.digits_end-point.ensures.0 dotless))
     (units_none c.args.text.now c.args.at c.digits_end-point.result c.digits_end-point.ensures.0 dotless c.number-whole.result c.scaled.result c.number-whole.ensures.0 c.scaled.ensures.0) c.judged.ensures
-
-pub digits_end-end-requires : goal.digits_end-end-requires
-digits_end-end-requires c = let k = inside c.args.text.now c.digits_end-point.result 45 (sym c.byte_at.ensures ∙ c.if-byte_at-ne46.false) in omega (arith, k)
 
 pub returns : goal.returns
 returns c = let dot : get_or c.args.text.now c.digits_end-point.result 0 ≡ 46 = sym c.byte_at.ensures ∙ c.if-byte_at-ne46.false in

@@ -7,6 +7,3 @@ use Rattle.cells.proofs.scaled.Given as goal
 
 abbrev pub invariant-loop-k : goal.invariant-loop-k
 invariant-loop-k l = (l.all ≤ most) × (at_most (number_from l.all (replicate (4 - l.k) 48)) ≡ at_most (number_from l.number (replicate (4 - l.places) 48)))
-
-abbrev pub decreases-loop-k : goal.decreases-loop-k
-decreases-loop-k l = 4 - l.k

@@ -19,9 +19,6 @@ own_bits-masks-requires c = c.requires.few
 pub loop-v-init : goal.loop-v-init
 loop-v-init c = (search rules, hand_none c.args.n _ (omega (arith, c.requires.few)) _ c.own_bits-masks.ensures)
 
-pub overflow_cast-p : goal.overflow_cast-p
-overflow_cast-p c = omega (arith, c.shared_slice_known-in-loop-v-1.given c.loop-v.v)
-
 pub offset_bounds-masks-v : goal.offset_bounds-masks-v
 offset_bounds-masks-v c = omega (arith, room c.requires)
 

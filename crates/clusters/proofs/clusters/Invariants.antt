@@ -7,6 +7,3 @@ use Rattle.clusters.proofs.clusters.Given as goal
 
 abbrev pub invariant-loop-v : goal.invariant-loop-v
 invariant-loop-v l = (l.v ≤ length l.parents) × Handed l.n (parent_of l.parents) l.v l.masks
-
-abbrev pub decreases-loop-v : goal.decreases-loop-v
-decreases-loop-v l = length l.parents - l.v

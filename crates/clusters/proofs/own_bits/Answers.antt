@@ -12,10 +12,10 @@ use Rattle.clusters.proofs.own_bits.Invariants.{own}
 use Rattle.clusters.proofs.own_bits.Goals as goal
 
 pub loop-i-init : goal.loop-i-init
-loop-i-init c = let e = c.no_masks-masks.ensures in (
+loop-i-init c = let e = c.filled-masks.ensures.throughout in (
   search rules,
   ap length e ∙ length-table 126 _,
-  fill_none 0 _ _ c.no_masks-masks.result (λ w. ap (λ (l : List ℕ). get_or l w 0) e ∙ get_or_table_const 126 0 w),
+  fill_none 0 _ _ c.filled-masks.result (λ w. ap (λ (l : List ℕ). get_or l w 0) e ∙ get_or_table_const 126 0 w),
 )
 
 pub loop-i-preserved : goal.loop-i-preserved

@@ -13,6 +13,3 @@ own n w = cond (ltb w n) (2 ^ w) 0
 
 abbrev pub invariant-loop-i : goal.invariant-loop-i
 invariant-loop-i l = (l.i ≤ l.n) × (length l.masks ≡ 126) × Filled 0 (own l.n) (λ _. 0) l.i l.masks
-
-abbrev pub decreases-loop-i : goal.decreases-loop-i
-decreases-loop-i l = l.n - l.i

@@ -6,6 +6,3 @@ use Rattle.comparison.proofs.same_rows.Given as goal
 
 abbrev pub invariant-loop-k : goal.invariant-loop-k
 invariant-loop-k l = (l.k ≤ l.pairs) × ((i : ℕ) → i < l.k → row_at l.s i ≡ row_at l.t i)
-
-abbrev pub decreases-loop-k : goal.decreases-loop-k
-decreases-loop-k l = l.pairs - l.k

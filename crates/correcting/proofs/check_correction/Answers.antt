@@ -7,33 +7,32 @@ use lib.ListN.{length, get_or}
 use mir.Syntax.{w64}
 use mir.Val.{to_z, of_z}
 use Rattle.exact.specs.Sum.{ind}
-use Rattle.verdict.specs.Answer.{Answer, answer_of}
-use Rattle.verdict.proofs.Answers.{refused-row, accepted-row}
+use Rattle.verdict.specs.Answer.{Answer, ◌or_else◌}
 use Rattle.matrix.specs.Place.{is_measured}
 use Rattle.tree_theory.specs.EdgeTable.{EdgeTable}
 use Rattle.fit_theory.specs.Tests.{seen_tests}
-use Rattle.correction_theory.specs.Correction.{Correction, pair_tests, corrected, correction_tests}
+use Rattle.correction_theory.specs.Correction.{Correction, corrected, correction_tests}
 use Rattle.correction_theory.specs.Kept.{split_count, before, count_change}
 use Rattle.correction_theory.proofs.Asked.{Apart, →apart}
 use Rattle.correcting.proofs.Changing.{ind-small, still}
 use Rattle.correcting.proofs.Correcting.{slot, slot-fits, ends, movable-counts, counts-after, emptied-at, emptied-none}
 use Rattle.correcting.proofs.check_correction.Goals as goal
-use Rattle.correcting.proofs.check_correction.Goals.{After-count_change-change, After-move_between, In_default}
+use Rattle.correcting.proofs.check_correction.Goals.{After-count_change-change, After-move_between, In_ok-check_pair}
 
 abbrev corr : ℕ → ℕ → ℕ → Correction
 corr i j far = record { i = i; j = j; far = far }
 
 -- where the first two tests passed there are two strains, and their pair has a place
-told : (e : In_default) → Apart e.args.n (corr e.args.i e.args.j e.args.far)
-told e = →apart e.args.n (corr e.args.i e.args.j e.args.far) (sym e.check_pair-of_pair.ensures ∙ ap answer_of e.in_default.is)
+told : (e : In_ok-check_pair) → Apart e.args.n (corr e.args.i e.args.j e.args.far)
+told e = →apart e.args.n (corr e.args.i e.args.j e.args.far) (sym e.in_ok-check_pair.ensures)
 
 -- the counts as they would be
 -- by how much they move, as the machine holds it
 module _ (c : After-count_change-change) where
-  abbrev e : In_default
-  e = (goal.at.After-count_change-change c).In_default
+  abbrev e : In_ok-check_pair
+  e = (goal.at.After-count_change-change c).In_ok-check_pair
 
-  abbrev p : In_default
+  abbrev p : In_ok-check_pair
   p = e
 
   change : to_z w64 (of_z w64 c.count_change-change.result) ≡ count_change p.args.distances.now (corr p.args.i p.args.j p.args.far)
@@ -46,23 +45,18 @@ counts : (c : After-move_between) → let p = e (goal.at.After-move_between c).A
 counts c = let q = p (goal.at.After-move_between c).After-count_change-change in
     counts-after q.requires.posted (told (e (goal.at.After-move_between c).After-count_change-change)) _ q.args.counts.now _ (change (goal.at.After-move_between c).After-count_change-change) q.requires.edge_table c.move_between.ensures
 
-behind : (c : In_default) (a : Answer) → a ≡ seen_tests c.args.n (corrected c.args.distances.now (corr c.args.i c.args.j c.args.far)) c.args.parents.now
+behind : (c : In_ok-check_pair) (a : Answer) → a ≡ seen_tests c.args.n (corrected c.args.distances.now (corr c.args.i c.args.j c.args.far)) c.args.parents.now
     → a ≡ correction_tests c.args.n c.args.distances.now c.args.parents.now (corr c.args.i c.args.j c.args.far)
-behind c a g = g ∙ accepted-row c.check_pair-of_pair.result (pair_tests c.args.n (corr c.args.i c.args.j c.args.far)) (seen_tests c.args.n (corrected c.args.distances.now (corr c.args.i c.args.j c.args.far)) c.args.parents.now)
-    c.in_default.is c.check_pair-of_pair.ensures
-
-pub returns-in-Refused : goal.returns-in-Refused
-returns-in-Refused c = refused-row c.in-Refused.refusal c.check_pair-of_pair.result (pair_tests c.args.n (corr c.args.i c.args.j c.args.far)) (seen_tests c.args.n (corrected c.args.distances.now (corr c.args.i c.args.j c.args.far)) c.args.parents.now)
-    c.in-Refused.is c.check_pair-of_pair.ensures
+behind c a g = g ∙ ap (λ (z : Answer). z or_else seen_tests c.args.n (corrected c.args.distances.now (corr c.args.i c.args.j c.args.far)) c.args.parents.now) c.in_ok-check_pair.ensures
 
 pub pair_place-requires : goal.pair_place-requires
 pair_place-requires c = let a = told c in (omega (arith, a.i-strain, c.requires.posted.matrix.few), omega (arith, a.j-strain, c.requires.posted.matrix.few), a.apart)
 
 pub offset_bounds-distances-pair_place : goal.offset_bounds-distances-pair_place
-offset_bounds-distances-pair_place c = omega (arith, c.pair_place.ensures, slot-fits c.requires.posted (told (goal.at.offset_bounds-distances-pair_place c).In_default))
+offset_bounds-distances-pair_place c = omega (arith, c.pair_place.ensures, slot-fits c.requires.posted (told (goal.at.offset_bounds-distances-pair_place c).In_ok-check_pair))
 
 pub bounds-distances-pair_place : goal.bounds-distances-pair_place
-bounds-distances-pair_place c = omega (arith, c.pair_place.ensures, slot c.requires.posted (told (goal.at.bounds-distances-pair_place c).In_default))
+bounds-distances-pair_place c = omega (arith, c.pair_place.ensures, slot c.requires.posted (told (goal.at.bounds-distances-pair_place c).In_ok-check_pair))
 
 pub move_between-requires : goal.move_between-requires
 move_between-requires c = let q = p (goal.at.move_between-requires c).After-count_change-change in

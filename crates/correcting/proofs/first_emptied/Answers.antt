@@ -1,7 +1,5 @@
 -- Every edge before v keeps a measured pair.
-use mathlib.Core.Path.{◌≡◌, sym, ◌∙◌}
-use mathlib.Core.Bool.{false}
-use Prim.Native.Nat.{◌-◌}
+use mathlib.Core.Path.{sym}
 use native.Mathlib.Omega.{arith}
 use borrow.Author.Count.{below_none, below_more}
 use borrow.Author.Tests.{not-true, not-false}
@@ -22,4 +20,4 @@ pub loop-v-preserved : goal.loop-v-preserved
 loop-v-preserved c = (omega arith, below_more _ _ c.loop-v.invariant.1 (let z = entry_of c.args.counts.now c.loop-v.v in not-true (eqb (nat_abs z) 0) (bits_fail z c.if-counts-v-eq0.false)))
 
 pub returns : goal.returns
-returns c = let a = c.args in let e : c.loop-v.v ≡ a.edges = omega arith in e ∙ sym (past_first a.edges (λ v. eqb (nat_abs (entry_of a.counts.now v)) 0) (λ i h. c.loop-v.invariant.1 i (omega arith)))
+returns c = let a = c.args in sym (past_first a.edges (λ v. eqb (nat_abs (entry_of a.counts.now v)) 0) (λ i h. c.loop-v.invariant.1 i (omega arith)))

@@ -4,6 +4,3 @@ use Rattle.corrections.proofs.print_edges.Given as goal
 
 abbrev pub invariant-loop-v : goal.invariant-loop-v
 invariant-loop-v g l = l.v ≤ l.edges
-
-abbrev pub decreases-loop-v : goal.decreases-loop-v
-decreases-loop-v g l = l.edges - l.v

@@ -6,6 +6,3 @@ use Rattle.corrections.proofs.print_row.Given as goal
 
 abbrev pub invariant-loop-j : goal.invariant-loop-j
 invariant-loop-j g l = (l.i < l.j) × (l.j ≤ l.n)
-
-abbrev pub decreases-loop-j : goal.decreases-loop-j
-decreases-loop-j g l = l.n - l.j

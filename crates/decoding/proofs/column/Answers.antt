@@ -45,7 +45,7 @@ pub bounds-held-first-in-loop-i : goal.bounds-held-first-in-loop-i
 bounds-held-first-in-loop-i c = let a = c.args in omega (arith, count_room a.n a.j (omega arith), pairs-few a.n (omega arith))
 
 pub loop-i-preserved : goal.loop-i-preserved
-loop-i-preserved c = column-turn _ _ _ _ (omega arith) (omega arith) (omega arith) _ _ _ _ _ c.loop-i-test.true c.row_below-row.ensures c.u16_at-in-loop-i.ensures c.loop-i.invariant
+loop-i-preserved c = column-turn _ _ _ _ (omega arith) (omega arith) (omega arith) _ _ _ _ _ (omega arith) c.row_below-row.ensures c.u16_at-in-loop-i.ensures c.loop-i.invariant
 
 pub returns : goal.returns
 returns c = column-end _ _ _ _ (omega arith) (omega arith) (omega arith) _ _ _ (omega arith) c.loop-i.invariant

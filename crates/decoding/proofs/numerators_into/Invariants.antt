@@ -8,6 +8,3 @@ use Rattle.decoding.proofs.numerators_into.Given as goal
 
 abbrev pub invariant-loop-k : goal.invariant-loop-k
 invariant-loop-k l = Decoding (pos 0) max_edges l.count (λ i. twos (number 8 l.s (l.at + 8 * i))) l.k l.held
-
-abbrev pub decreases-loop-k : goal.decreases-loop-k
-decreases-loop-k l = l.count - l.k

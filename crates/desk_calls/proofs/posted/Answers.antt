@@ -1,8 +1,14 @@
--- The front of the distances, and behind their bytes the parents.
-use mathlib.Core.Path.{sym}
-use native.Mathlib.Omega.{arith}
-use lib.Seq.{length-take-le}
+-- A posting that passes gives a held desk, whatever desk it is asked of: here of an empty one.
+use Rattle.std.specs.Prelude.{None, Result, Ok, Err, IfOk}
+use Rattle.verdict.specs.declared.Refusal.{Refusal}
+use Rattle.desk_theory.specs.Desk.{Call}
+use Rattle.desk.specs.declared.Desk.{Desk}
+use Rattle.desk.specs.Held.{Held, Steps}
 use Rattle.desk_calls.proofs.posted.Goals as goal
 
-pub slice_bounds-post-end : goal.slice_bounds-post-end
-slice_bounds-post-end c = sym (length-take-le _ _ (omega arith))
+gave : (c : Call) (r : Result Desk Refusal) → ((d : Desk) → Held d → Steps d c r) → IfOk r (λ d. Held d)
+gave c (Ok e) s = (s (record { posted = None }) tt).held
+gave c (Err q) s = tt
+
+pub returns : goal.returns
+returns c = gave _ _ c.post.ensures

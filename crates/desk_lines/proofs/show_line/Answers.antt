@@ -1,10 +1,10 @@
 -- The bench, or nothing of the form.
-use borrow.Author.Tests.{not-true, not-false}
-use Rattle.desk_lines.proofs.Lining.{show_wrong, show_right}
+use Rattle.desk_text.specs.Meaning.{shows}
+use Rattle.desk_lines.proofs.Lining.{bench-wrong, show_right}
 use Rattle.desk_lines.proofs.show_line.Goals as goal
 
-pub returns-then-not-read : goal.returns-then-not-read
-returns-then-not-read c = show_wrong _ _ _ c.bench_of-read.ensures (not-true _ c.if-not-read.true)
+pub returns-in_err-bench : goal.returns-in_err-bench
+returns-in_err-bench c = λ ds ps ns. rw c.from_residual.ensures (bench-wrong _ ds ps ns (shows c.args.view) c.in_err-bench.ensures)
 
 pub returns : goal.returns
-returns c = show_right _ _ _ c.bench_of-read.ensures (not-false _ c.if-not-read.false)
+returns c = λ ds ps ns. show_right _ ds ps ns _ c.in_ok-bench.ensures _

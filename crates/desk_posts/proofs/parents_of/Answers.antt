@@ -14,15 +14,11 @@ pub returns-then-not-over : goal.returns-then-not-over
 returns-then-not-over c = let t = c.numbers-taken.ensures in
     back_more _ _ _ c.word_at-slash.ensures _ c.same.ensures (c.if-not-same.false) _ _ _ t _ c.over.ensures _ (c.if-not-over.true)
 
-pub slice_bounds-lay_parents-end-2 : goal.slice_bounds-lay_parents-end-2
-slice_bounds-lay_parents-end-2 c = taken-front is_number _ _ _ _ _ _ c.numbers-taken.ensures
+pub lay_parents-requires-clause-numbers_in_bounds : goal.lay_parents-requires-clause-numbers_in_bounds
+lay_parents-requires-clause-numbers_in_bounds c = let t = c.numbers-taken.ensures in let n = taken-front is_number _ _ _ _ _ _ t in let m = taken-few is_number _ _ _ _ _ _ t c.requires.1 in omega (arith, n, m, c.requires.3)
 
-pub lay_parents-requires : goal.lay_parents-requires
-lay_parents-requires c = let t = c.numbers-taken.ensures in let n = taken-front is_number _ _ _ _ _ _ t in let m = taken-few is_number _ _ _ _ _ _ t c.requires.1 in
-    record {
-      numbers_in_bounds = omega (arith, n, m, c.requires.3);
-      by_index = back-bytes _ _ _ c.word_at-slash.ensures _ c.same.ensures (c.if-not-same.false) _ _ _ t _ c.over.ensures;
-    }
+pub lay_parents-requires-clause-by_index : goal.lay_parents-requires-clause-by_index
+lay_parents-requires-clause-by_index c = back-bytes _ _ _ c.word_at-slash.ensures _ c.same.ensures (c.if-not-same.false) _ _ _ c.numbers-taken.ensures _ c.over.ensures
 
 pub returns : goal.returns
 returns c = let t = c.numbers-taken.ensures in let m = taken-few is_number _ _ _ _ _ _ t c.requires.1 in

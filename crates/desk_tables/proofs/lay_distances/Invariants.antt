@@ -6,6 +6,3 @@ use Rattle.desk_tables.proofs.lay_distances.Given as goal
 
 abbrev pub invariant-loop-k : goal.invariant-loop-k
 invariant-loop-k l = Laying l.n l.ordered l.rows l.initial.distances l.distances l.k l.i l.j
-
-abbrev pub decreases-loop-k : goal.decreases-loop-k
-decreases-loop-k l = length l.rows - l.k

@@ -7,6 +7,3 @@ use Rattle.desk_tables.proofs.lay_parents.Given as goal
 
 abbrev pub invariant-loop-k : goal.invariant-loop-k
 invariant-loop-k l = (l.k ≤ length l.numbers) × ((length l.parents ≡ length l.initial.parents) × Laid l.numbers l.initial.parents l.k l.parents)
-
-abbrev pub decreases-loop-k : goal.decreases-loop-k
-decreases-loop-k l = length l.numbers - l.k

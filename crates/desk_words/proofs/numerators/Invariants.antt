@@ -6,8 +6,8 @@ use Rattle.desk_text.specs.Fields.{cut_numerator}
 use Rattle.desk_words.proofs.Taking.{Going}
 use Rattle.desk_words.proofs.numerators.Given as goal
 
-abbrev pub invariant-loop-end : goal.invariant-loop-end
-invariant-loop-end l = Going is_signed (λ w. cut_numerator (signed_of w)) l.line l.at l.initial.into l.into l.count l.end
+abbrev pub invariant-loop-next : goal.invariant-loop-next
+invariant-loop-next l = Going is_signed (λ w. cut_numerator (signed_of w)) l.line l.at l.initial.into l.into l.count l.end
 
-abbrev pub decreases-loop-end : goal.decreases-loop-end
-decreases-loop-end l = length l.line - l.end
+abbrev pub decreases-loop-next : goal.decreases-loop-next
+decreases-loop-next l = length l.line - l.end

@@ -1,6 +1,7 @@
 -- The run is followed byte by byte, until a byte is no digit or the text ends.
-use mathlib.Core.Path.{sym, ◌∙◌}
-use Prim.Native.Nat.{◌-◌}
+use mathlib.Core.Path.{◌≡◌, sym, ◌∙◌}
+use native.Mathlib.Omega.{arith}
+use lib.ListN.{length}
 use Rattle.digits.specs.Digits.{is_digit}
 use Rattle.digits.proofs.Reading.{run-start, run_more, run-stop, run_end}
 use Rattle.digits.proofs.digits_end.Goals as goal
@@ -15,4 +16,5 @@ pub loop-end-preserved : goal.loop-end-preserved
 loop-end-preserved c = run_more is_digit c.args.text.now c.args.at c.loop-end.end c.loop-end-test.true (sym c.is_digit.ensures ∙ c.if-not-is_digit.false) c.loop-end.invariant
 
 pub returns : goal.returns
-returns c = run_end is_digit c.args.text.now c.args.at c.loop-end.end c.loop-end-test.false c.loop-end.invariant
+returns c = let e : c.loop-end.end ≡ length c.args.text.now = omega arith in
+    rw e at (run_end is_digit c.args.text.now c.args.at c.loop-end.end c.loop-end-test.false c.loop-end.invariant)

@@ -7,6 +7,3 @@ use Rattle.digits.proofs.digits_end.Given as goal
 
 abbrev pub invariant-loop-end : goal.invariant-loop-end
 invariant-loop-end l = RunAt is_digit l.text l.at l.end
-
-abbrev pub decreases-loop-end : goal.decreases-loop-end
-decreases-loop-end l = length l.text - l.end

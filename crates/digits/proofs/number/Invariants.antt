@@ -7,6 +7,3 @@ use Rattle.digits.proofs.number.Given as goal
 
 abbrev pub invariant-loop-k : goal.invariant-loop-k
 invariant-loop-k l = (l.k ≤ l.to) × (l.all ≤ most) × (at_most (number_from l.all (slice l.k l.to l.text)) ≡ at_most (number_from l.number (slice l.from l.to l.text)))
-
-abbrev pub decreases-loop-k : goal.decreases-loop-k
-decreases-loop-k l = l.to - l.k

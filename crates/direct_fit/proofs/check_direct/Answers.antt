@@ -1,16 +1,25 @@
 -- `check_direct`: the matrix and the tree first; of what passes, the degrees and missing pairs, then the sizes.
-use Rattle.direct_fit.proofs.Chosen.{first, shaped, then}
+use mathlib.Core.Path.{◌≡◌, ◌∙◌}
+use lib.ListN.{length}
+use Rattle.verdict.specs.Answer.{Verdict, answer_of}
+use Rattle.verdict.proofs.Answers.{handed_on}
+use Rattle.direct_theory.specs.Tests.{direct_tests}
+use Rattle.direct_fit.proofs.Chosen.{first, shaped, second, third}
 use Rattle.direct_fit.proofs.check_direct.Goals as goal
 
-pub returns-in-Refused : goal.returns-in-Refused
-returns-in-Refused c = let a = c.args in
-    first a.n a.distances.now a.parents.now a.a a.b a.c c.check_shapes-shaped.result c.check_shapes-shaped.ensures c.in-Refused.refusal c.in-Refused.is
+pub returns-in_err-check_shapes : goal.returns-in_err-check_shapes
+returns-in_err-check_shapes c = let a = c.args in
+    handed_on (λ (r : Verdict). answer_of r ≡ direct_tests a.n a.distances.now a.parents.now a.a a.b a.c) _ _ c.from_residual.ensures
+    (first a.n a.distances.now a.parents.now a.a a.b a.c _ c.in_err-check_shapes.ensures)
 
-pub check_resolved-resolved-requires : goal.check_resolved-resolved-requires
-check_resolved-resolved-requires c = let a = c.args in
-    shaped a.n a.distances.now a.parents.now a.a a.b a.c c.check_shapes-shaped.result c.check_shapes-shaped.ensures c.in_default.is
+pub check_resolved-requires : goal.check_resolved-requires
+check_resolved-requires c = let a = c.args in shaped a.n a.distances.now a.parents.now a.a a.b a.c c.in_ok-check_shapes.ensures
+
+pub returns-in_err-check_resolved : goal.returns-in_err-check_resolved
+returns-in_err-check_resolved c = let a = c.args in
+    handed_on (λ (r : Verdict). answer_of r ≡ direct_tests a.n a.distances.now a.parents.now a.a a.b a.c) _ _ c.from_residual-in_err-check_resolved.ensures
+    (second a.n a.distances.now a.parents.now a.a a.b a.c c.in_ok-check_shapes.ensures _ c.in_err-check_resolved.ensures)
 
 pub returns : goal.returns
 returns c = let a = c.args in
-    then a.n a.distances.now a.parents.now a.a a.b a.c c.check_shapes-shaped.result c.check_shapes-shaped.ensures c.in_default.is c.check_resolved-resolved.result c.check_buffers-lent.result c.or_else.result
-    c.check_resolved-resolved.ensures c.check_buffers-lent.ensures c.or_else.ensures
+    c.check_buffers.ensures ∙ third a.n a.distances.now a.parents.now a.a a.b a.c c.in_ok-check_shapes.ensures c.in_ok-check_resolved.ensures

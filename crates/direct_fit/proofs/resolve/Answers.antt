@@ -72,13 +72,10 @@ pub returns : goal.returns
 returns c =
     let r-fits : SFits w64 c.sum_squares-squares.result.r = record { sfits = c.struct_told-1.given.0.1 } in
     let h_fits : SFits w64 c.sum_squares-squares.result.h = record { sfits = c.struct_told-1.given.1.0.1 } in record {
-      verdict_value = refl;
-      resolves = record {
-        tops = tops_are (N (goal.at.returns c).After-clusters-masks) (ds (goal.at.returns c).After-clusters-masks) (ps (goal.at.returns c).After-clusters-masks) c.requires.shaped c.requires.parents_value c.split-sums.result c.split-sums.ensures _ _ c.fill-worked.result c.fill-worked.ensures;
-        bottoms = bottoms_are (N (goal.at.returns c).After-clusters-masks) (ds (goal.at.returns c).After-clusters-masks) (ps (goal.at.returns c).After-clusters-masks) c.requires.shaped c.requires.parents_value c.split-sums.result c.split-sums.ensures _ _ c.fill-worked.result c.fill-worked.ensures;
-        rounded = rounded-is (N (goal.at.returns c).After-clusters-masks) (ds (goal.at.returns c).After-clusters-masks) (ps (goal.at.returns c).After-clusters-masks) c.requires.shaped c.requires.parents_value c.split-sums.result c.split-sums.ensures _ _ c.fill-worked.result c.fill-worked.ensures _ c.copy_out.ensures;
-        r = to_z-of_z r-fits ∙ c.sum_squares-squares.ensures.r_value ∙ r-same (N (goal.at.returns c).After-clusters-masks) (ds (goal.at.returns c).After-clusters-masks) (ps (goal.at.returns c).After-clusters-masks) c.requires.shaped c.requires.parents_value c.split-sums.result c.split-sums.ensures _ _ c.fill-worked.result c.fill-worked.ensures;
-        h = to_z-of_z h_fits ∙ c.sum_squares-squares.ensures.h_value;
-        direct = direct (N (goal.at.returns c).After-clusters-masks) (ds (goal.at.returns c).After-clusters-masks) (ps (goal.at.returns c).After-clusters-masks) c.requires.shaped c.requires.parents_value;
-      };
+      tops = tops_are (N (goal.at.returns c).After-clusters-masks) (ds (goal.at.returns c).After-clusters-masks) (ps (goal.at.returns c).After-clusters-masks) c.requires.shaped c.requires.parents_value c.split-sums.result c.split-sums.ensures _ _ c.fill-worked.result c.fill-worked.ensures;
+      bottoms = bottoms_are (N (goal.at.returns c).After-clusters-masks) (ds (goal.at.returns c).After-clusters-masks) (ps (goal.at.returns c).After-clusters-masks) c.requires.shaped c.requires.parents_value c.split-sums.result c.split-sums.ensures _ _ c.fill-worked.result c.fill-worked.ensures;
+      rounded = rounded-is (N (goal.at.returns c).After-clusters-masks) (ds (goal.at.returns c).After-clusters-masks) (ps (goal.at.returns c).After-clusters-masks) c.requires.shaped c.requires.parents_value c.split-sums.result c.split-sums.ensures _ _ c.fill-worked.result c.fill-worked.ensures _ c.copy_out.ensures;
+      r = to_z-of_z r-fits ∙ c.sum_squares-squares.ensures.r_value ∙ r-same (N (goal.at.returns c).After-clusters-masks) (ds (goal.at.returns c).After-clusters-masks) (ps (goal.at.returns c).After-clusters-masks) c.requires.shaped c.requires.parents_value c.split-sums.result c.split-sums.ensures _ _ c.fill-worked.result c.fill-worked.ensures;
+      h = to_z-of_z h_fits ∙ c.sum_squares-squares.ensures.h_value;
+      direct = direct (N (goal.at.returns c).After-clusters-masks) (ds (goal.at.returns c).After-clusters-masks) (ps (goal.at.returns c).After-clusters-masks) c.requires.shaped c.requires.parents_value;
     }

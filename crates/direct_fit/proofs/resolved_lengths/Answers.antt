@@ -1,13 +1,6 @@
 -- `resolved_lengths`: the number and the buffers of `fit_resolved`.
-use mathlib.Core.Path.{◌∙◌, ap}
-use Rattle.verdict.specs.Answer.{number}
+use Rattle.direct_fit.proofs.Chosen.{lengths-told}
 use Rattle.direct_fit.proofs.resolved_lengths.Goals as goal
 
 pub returns : goal.returns
-returns c = let e = c.fit_resolved-found.ensures in record {
-  number = c.number.ensures ∙ ap number e.answer;
-  tops = λ z. (e.fit z).tops;
-  bottoms = λ z. (e.fit z).bottoms;
-  rounded = λ z. (e.fit z).rounded;
-  kept = e.kept;
-}
+returns c = lengths-told _ _ _ _ _ _ _ _ _ _ c.fit_resolved-found.result c.fit_resolved-found.ensures c.number.ensures

@@ -85,7 +85,7 @@ module _ (e : After-edge_length-ratio) where
   bound = most given v edge e.edge_length-ratio.result.top e.edge_length-ratio.result.bottom low
 
 pub loop-v-init : goal.loop-v-init
-loop-v-init c = lowering_start (K c.before.before.before.before) (f c.before.before.before.before) c.args.numerators.now c.args.denominators.now c.edge_zeros-rounded.result c.requires.numerators_len.0 c.requires.numerators_len.1 c.edge_zeros-rounded.ensures
+loop-v-init c = lowering_start (K c.before.before.before.before) (f c.before.before.before.before) c.args.numerators.now c.args.denominators.now c.filled-rounded.result c.requires.numerators_len.0 c.requires.numerators_len.1 c.filled-rounded.ensures.throughout
 
 pub edge_length-ratio-requires : goal.edge_length-ratio-requires
 edge_length-ratio-requires c = record {
@@ -119,9 +119,6 @@ offset_bounds-rounded-v c = record { fits = omega (arith, edge (goal.at.offset_b
 
 pub bounds-rounded-v : goal.bounds-rounded-v
 bounds-rounded-v c = omega (arith, edge (goal.at.bounds-rounded-v c).After-edge_length-ratio, few (given (goal.at.bounds-rounded-v c).After-edge_length-ratio))
-
-pub overflow_add-v : goal.overflow_add-v
-overflow_add-v c = record { fits = omega (arith, edge (goal.at.overflow_add-v c).After-edge_length-ratio, few (given (goal.at.overflow_add-v c).After-edge_length-ratio)) }
 
 pub loop-v-preserved : goal.loop-v-preserved
 loop-v-preserved c = let p = given (goal.at.loop-v-preserved c).After-edge_length-ratio in let n = c.edge_length-ratio.result.top in let d = c.edge_length-ratio.result.bottom in

@@ -9,6 +9,3 @@ use Rattle.edge_lengths.proofs.fill.Given as goal
 
 abbrev pub invariant-loop-v : goal.invariant-loop-v
 invariant-loop-v l = Lowering (length l.parents) (length_by l.n (length l.parents) (parent_of l.parents) (entry_of l.sums)) l.initial.numerators l.initial.denominators l.v l.numerators l.denominators l.rounded
-
-abbrev pub decreases-loop-v : goal.decreases-loop-v
-decreases-loop-v l = length l.parents - l.v

@@ -14,15 +14,15 @@ gathered : (c : After-weighted) → let a = c.args in
     pos c.weighted.result ≡ sum_h (pairs a.n) a.edges (parts_pair (parent_of a.parents.now))
 gathered c = let a = c.args in
     gathered-is _ _ c.weighted.type_inv c.requires.fits63
-    (h-gathered a.n a.edges (parent_of a.parents.now) c.ones-one_each.result _ (one _ c.ones-one_each.ensures c.requires.edges_in_bounds.1) c.path_sums.ensures _ c.weighted.ensures)
+    (h-gathered a.n a.edges (parent_of a.parents.now) c.filled-one_each.result _ (one _ c.filled-one_each.ensures.throughout c.requires.edges_in_bounds.1) c.path_sums.ensures _ c.weighted.ensures)
 
 high : (c : After-weighted) → c.weighted.result ≤ 9223372036854775807
 high c = gathered-high _ _ c.requires.fits63 (gathered c)
 
 pub path_sums-requires : goal.path_sums-requires
 path_sums-requires c = record {
-  lengthened = ones-lengthened _ c.ones-one_each.ensures c.requires.edges_in_bounds.0 c.requires.edges_in_bounds.1;
-  sums_value = c.no_sums-paths.ensures;
+  lengthened = ones-lengthened _ c.filled-one_each.ensures.throughout c.requires.edges_in_bounds.0 c.requires.edges_in_bounds.1;
+  sums_value = c.filled-paths.ensures.throughout;
 }
 
 pub overflow_cast-result : goal.overflow_cast-result

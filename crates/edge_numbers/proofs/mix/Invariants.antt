@@ -5,6 +5,3 @@ use Rattle.edge_numbers.proofs.mix.Given as goal
 
 abbrev pub invariant-loop-v : goal.invariant-loop-v
 invariant-loop-v l = Mixing l.edges l.a l.b l.initial.sums l.paths l.v l.sums
-
-abbrev pub decreases-loop-v : goal.decreases-loop-v
-decreases-loop-v l = l.edges - l.v

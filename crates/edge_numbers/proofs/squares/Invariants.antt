@@ -6,6 +6,3 @@ use Rattle.edge_numbers.proofs.squares.Given as goal
 
 abbrev pub invariant-loop-k : goal.invariant-loop-k
 invariant-loop-k l = Squaring l.distances l.count l.sum l.k
-
-abbrev pub decreases-loop-k : goal.decreases-loop-k
-decreases-loop-k l = l.count - l.k

@@ -8,7 +8,7 @@ pub mix-requires : goal.mix-requires
 mix-requires c = let p = c.requires in
     let t = c.splits.ensures in record {
       edges_le_max_edges = (few-edges p, t.size);
-      mixable = mixable _ _ _ _ _ (omega arith) (omega arith) (sums-low p t) (zeros-low _ c.no_sums-none.ensures _);
+      mixable = mixable _ _ _ _ _ (omega arith) (omega arith) (sums-low p t) (zeros-low _ c.filled-none.ensures.throughout _);
     }
 
 pub returns : goal.returns

@@ -6,6 +6,3 @@ use Rattle.edge_numbers.proofs.weighted.Given as goal
 
 abbrev pub invariant-loop-v : goal.invariant-loop-v
 invariant-loop-v l = (l.v ≤ l.edges) × Modulo l.held (pos l.acc +ℤ weighted_to l.x l.y l.v)
-
-abbrev pub decreases-loop-v : goal.decreases-loop-v
-decreases-loop-v l = l.edges - l.v

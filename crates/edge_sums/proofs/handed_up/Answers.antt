@@ -7,7 +7,7 @@ use Rattle.edge_sums.proofs.HandingUp.{hand_start, hand_end, parent_low, parent_
 use Rattle.edge_sums.proofs.handed_up.Goals as goal
 
 pub loop-v-init : goal.loop-v-init
-loop-v-init c = hand_start c.requires.rooted c.args.own.now c.requires.own_len.1 c.requires.own_len.0 _ c.edge_zeros-sums.ensures
+loop-v-init c = hand_start c.requires.rooted c.args.own.now c.requires.own_len.1 c.requires.own_len.0 _ c.filled-sums.ensures.throughout
 
 pub overflow_cast-parents : goal.overflow_cast-parents
 overflow_cast-parents c = omega (arith, parent_low c.requires.rooted c.args.own.now c.requires.own_len.1 c.loop-v-test.true c.loop-v.invariant)

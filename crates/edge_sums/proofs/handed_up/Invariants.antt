@@ -5,6 +5,3 @@ use Rattle.edge_sums.proofs.handed_up.Given as goal
 
 abbrev pub invariant-loop-v : goal.invariant-loop-v
 invariant-loop-v l = SharesAt l.edges l.parents l.initial.own l.v l.own l.sums
-
-abbrev pub decreases-loop-v : goal.decreases-loop-v
-decreases-loop-v l = l.edges - l.v

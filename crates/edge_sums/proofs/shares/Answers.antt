@@ -9,7 +9,7 @@ pub own_bits-come-requires : goal.own_bits-come-requires
 own_bits-come-requires c = omega (arith, c.requires.ready.standing.allowed.few)
 
 pub loop-v-init : goal.loop-v-init
-loop-v-init c = gather_start c.requires.ready _ _ _ c.no_shares-own.ensures c.no_ways-ways.ensures c.own_bits-come.ensures
+loop-v-init c = gather_start c.requires.ready _ _ _ c.filled-own.ensures.throughout c.filled-ways.ensures.throughout c.own_bits-come.ensures
 
 pub offset_bounds-masks-v : goal.offset_bounds-masks-v
 offset_bounds-masks-v c = omega (arith, c.loop-v-test.true, few-edges c.requires.ready.standing)
@@ -63,12 +63,6 @@ offset_bounds-come-m-in-loop-v c = let edge = c.loop-v-test.true in
 pub bounds-come-m-in-loop-v : goal.bounds-come-m-in-loop-v
 bounds-come-m-in-loop-v c = let edge = c.loop-v-test.true in
     omega (arith, parent_low c.requires.ready c.requires.in_range c.loop-v.invariant edge)
-
-pub overflow_add-v : goal.overflow_add-v
-overflow_add-v c = omega (arith, c.loop-v-test.true, few-edges c.requires.ready.standing)
-
-pub loop-v-smaller : goal.loop-v-smaller
-loop-v-smaller c = omega (arith, c.loop-v-test.true)
 
 pub loop-v-preserved : goal.loop-v-preserved
 loop-v-preserved c = let edge = c.loop-v-test.true in

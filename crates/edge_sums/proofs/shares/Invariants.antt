@@ -5,6 +5,3 @@ use Rattle.edge_sums.proofs.shares.Given as goal
 
 abbrev pub invariant-loop-v : goal.invariant-loop-v
 invariant-loop-v l = Gathered l.n l.edges l.d l.distances l.parents l.numerators l.v l.own l.ways l.come
-
-abbrev pub decreases-loop-v : goal.decreases-loop-v
-decreases-loop-v l = l.edges - l.v

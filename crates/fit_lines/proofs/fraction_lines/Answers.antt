@@ -27,11 +27,11 @@ loop-v-preserved c = let l = c.loop-v in
     let a = c.args in
     let e = back-pos l.v (omega arith) in
     let n = to_z-of_z {w = w64} {z = entry_of a.tops.now l.v} (record { sfits = c.values-1.given }) in
-    let d = to_z-of_z {w = w64} {z = c.whole.result} (search rules) in
+    let d = to_z-of_z {w = w64} {z = c.from.result} (search rules) in
     let m = to_z-of_z {w = w64} {z = entry_of a.rounded.now l.v} (record { sfits = c.values-in-loop-v-1.given }) in (
       omega arith,
       search rules,
-      edges_more a.text.now a.at (row a.tops.now a.bottoms.now a.rounded.now) (λ u. omega arith) a.k l.v (omega arith) (omega arith) l.invariant.2 (simp (e, n, c.whole.ensures, m) at (simp d at c.line-next.ensures)),
+      edges_more a.text.now a.at (row a.tops.now a.bottoms.now a.rounded.now) (λ u. omega arith) a.k l.v (omega arith) (omega arith) l.invariant.2 (simp (e, n, c.from.ensures, m) at (simp d at c.line-next.ensures)),
     )
 
 pub returns : goal.returns

@@ -15,6 +15,3 @@ row tops bottoms rounded v = entry_of tops v ∷ pos (get_or bottoms v 0) ∷ en
 
 abbrev pub invariant-loop-v : goal.invariant-loop-v
 invariant-loop-v l = (l.v ≤ l.k) × (length l.text ≡ length l.initial.text) × Wrote l.initial.text l.text l.at (edge_lines l.v (row l.tops l.bottoms l.rounded)) l.next
-
-abbrev pub decreases-loop-v : goal.decreases-loop-v
-decreases-loop-v l = l.k - l.v

@@ -5,7 +5,7 @@ use Rattle.fit_numbers.proofs.Written.{written_start, written-turn, written-end,
 use Rattle.fit_numbers.proofs.rounded.Goals as goal
 
 pub loop-v-init : goal.loop-v-init
-loop-v-init c = written_start _ _ _ _ c.edge_zeros-lengths.ensures
+loop-v-init c = written_start _ _ _ _ c.filled-lengths.ensures.throughout
 
 pub thousandths-requires : goal.thousandths-requires
 thousandths-requires c = (entry-small c.requires.in_range c.loop-v.v (omega arith), c.requires.edges_le_max_edges.1)

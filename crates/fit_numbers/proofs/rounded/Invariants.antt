@@ -5,6 +5,3 @@ use Rattle.fit_numbers.proofs.rounded.Given as goal
 
 abbrev pub invariant-loop-v : goal.invariant-loop-v
 invariant-loop-v l = Written l.edges l.d l.numerators l.v l.lengths
-
-abbrev pub decreases-loop-v : goal.decreases-loop-v
-decreases-loop-v l = l.edges - l.v

@@ -7,6 +7,3 @@ use Rattle.fit_numbers.proofs.total.Given as goal
 
 abbrev pub invariant-loop-edge : goal.invariant-loop-edge
 invariant-loop-edge l = (l.edge ≤ l.edges) × (l.sum ≡ sum l.edge (entry_of l.numerators))
-
-abbrev pub decreases-loop-edge : goal.decreases-loop-edge
-decreases-loop-edge l = l.edges - l.edge

@@ -6,7 +6,7 @@ use Rattle.front.proofs.Formed.{apart, together, each}
 use Rattle.front.proofs.posted.Goals as goal
 
 pub returns-then-other-n : goal.returns-then-other-n
-returns-then-other-n c = c.or_else.ensures ∙ ap (λ (m : Answer). m or_else fault 8 Nowhere) c.check_matrix-of_matrix.ensures
+returns-then-other-n c = ap (λ (m : Answer). m or_else fault 8 Nowhere) c.in_ok-check_matrix.ensures
     ∙ apart c.args.count _ _ c.args.distances.now c.args.parents.now c.if-other-n.true
 
 pub returns-then-count-gt2 : goal.returns-then-count-gt2

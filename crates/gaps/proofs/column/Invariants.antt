@@ -7,6 +7,3 @@ use Rattle.gaps.proofs.column.Given as goal
 
 abbrev pub invariant-loop-i : goal.invariant-loop-i
 invariant-loop-i l = (l.i ≤ l.j) × (l.mask ≡ mask l.i (λ h. measured l.distances (h, l.j)))
-
-abbrev pub decreases-loop-i : goal.decreases-loop-i
-decreases-loop-i l = l.j - l.i

@@ -12,10 +12,10 @@ use Rattle.gaps.proofs.columns.Invariants.{whole}
 use Rattle.gaps.proofs.columns.Goals as goal
 
 pub loop-k-init : goal.loop-k-init
-loop-k-init c = let e = c.no_columns-masks.ensures in (
+loop-k-init c = let e = c.filled-masks.ensures.throughout in (
   search rules,
   ap length e ∙ length-table 64 _,
-  fill_none 0 _ _ c.no_columns-masks.result (λ w. ap (λ (l : List ℕ). get_or l w 0) e ∙ get_or_table_const 64 0 w),
+  fill_none 0 _ _ c.filled-masks.result (λ w. ap (λ (l : List ℕ). get_or l w 0) e ∙ get_or_table_const 64 0 w),
 )
 
 pub column-requires : goal.column-requires

@@ -15,6 +15,3 @@ whole n ds j = cond (ltb j n) (column_of ds j) 0
 
 abbrev pub invariant-loop-k : goal.invariant-loop-k
 invariant-loop-k l = (l.k ≤ l.n) × (length l.masks ≡ 64) × Filled 0 (whole l.n l.distances) (λ _. 0) l.k l.masks
-
-abbrev pub decreases-loop-k : goal.decreases-loop-k
-decreases-loop-k l = l.n - l.k

@@ -1,11 +1,10 @@
--- `first_unseen`: while the loop runs, each edge met so far parts a measured pair.
+-- `first_unseen`: each edge met so far parts a measured pair.
 use borrow.Author.Rules.{rules}
-use mathlib.Core.Path.{◌≡◌, sym, ◌∙◌, ap}
+use mathlib.Core.Path.{sym, ◌∙◌, ap}
 use mathlib.Core.Bool.{false, not}
 use Prim.Native.Nat.{◌-◌}
 use native.Mathlib.Omega.{arith}
 use borrow.Author.Count.{below_none, below_more}
-use lib.ListN.{length}
 use Rattle.verdict.proofs.Table.{first-is, past_first}
 use Rattle.gaps.proofs.Parting.{few-edges, unseen-is}
 use Rattle.gaps.proofs.first_unseen.Goals as goal
@@ -43,5 +42,4 @@ loop-v-preserved c = let v = c.loop-v.v in
     (search rules, below_more _ _ c.loop-v.invariant.1 (sym u ∙ ap not (sym c.parts_some.ensures ∙ c.if-not-parts_some.false)))
 
 pub returns : goal.returns
-returns c = let e : c.loop-v.v ≡ length c.args.parents.now = omega arith in
-    e ∙ sym (past_first _ _ (λ k l. c.loop-v.invariant.1 k (omega arith)))
+returns c = sym (past_first _ _ (λ k l. c.loop-v.invariant.1 k (omega arith)))

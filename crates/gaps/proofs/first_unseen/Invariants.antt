@@ -1,4 +1,4 @@
--- `first_unseen`: while the loop runs, each edge met so far parts a measured pair.
+-- `first_unseen`: each edge met so far parts a measured pair.
 use mathlib.Core.Path.{◌≡◌}
 use mathlib.Core.Bool.{false}
 use Prim.Native.Nat.{ℕ, ◌≤◌, ◌<◌, ◌-◌}
@@ -8,6 +8,3 @@ use Rattle.gaps.proofs.first_unseen.Given as goal
 
 abbrev pub invariant-loop-v : goal.invariant-loop-v
 invariant-loop-v l = (l.v ≤ length l.parents) × ((k : ℕ) → k < l.v → unseen l.n l.distances l.parents k ≡ false)
-
-abbrev pub decreases-loop-v : goal.decreases-loop-v
-decreases-loop-v l = length l.parents - l.v

@@ -8,6 +8,3 @@ use Rattle.gaps.proofs.parts_some.Given as goal
 
 abbrev pub invariant-loop-j : goal.invariant-loop-j
 invariant-loop-j l = (l.j ≤ l.n) × ((k : ℕ) → k < l.j → parts_column l.cluster k (get_or l.masks k 0) ≡ false)
-
-abbrev pub decreases-loop-j : goal.decreases-loop-j
-decreases-loop-j l = l.n - l.j

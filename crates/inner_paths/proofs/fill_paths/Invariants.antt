@@ -7,6 +7,3 @@ use Rattle.inner_paths.proofs.fill_paths.Given as goal
 
 abbrev pub invariant-loop-a : goal.invariant-loop-a
 invariant-loop-a l = (l.n ≤ l.a) × (l.a ≤ l.edges) × Between l.edges (parent_of l.parents) (entry_of l.x) (l.edges - l.a + 1) l.between
-
-abbrev pub decreases-loop-a : goal.decreases-loop-a
-decreases-loop-a l = l.a

@@ -7,6 +7,3 @@ use Rattle.inner_paths.proofs.reach.Given as goal
 
 abbrev pub invariant-loop-b : goal.invariant-loop-b
 invariant-loop-b l = Reaching l.edges (parent_of l.parents) (entry_of l.x) l.a l.between l.b
-
-abbrev pub decreases-loop-b : goal.decreases-loop-b
-decreases-loop-b l = l.own - l.b

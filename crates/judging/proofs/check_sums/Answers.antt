@@ -1,6 +1,5 @@
 -- `check_sums`: each sum is its edge's, so the test over the table is the test over the edges.
 use mathlib.Core.Path.{sym, ◌∙◌}
-use mathlib.Core.Bool.{false}
 use native.Mathlib.Omega.{arith}
 use lib.ListN.{length}
 use Rattle.matrix.specs.Place.{Complete}
@@ -28,7 +27,7 @@ remainders-requires c = record {
   splittable = splittable c.requires.posted (complete (goal.at.remainders-requires c).Else-some_missing);
   lengthened = lengthened c.requires.posted c.requires.proper;
   d_le_max_denominator = omega (arith, c.requires.proper.most);
-  sums_value = c.edge_zeros-sums.ensures;
+  sums_value = c.filled-sums.ensures.throughout;
 }
 
 pub returns : goal.returns

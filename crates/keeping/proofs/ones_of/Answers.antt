@@ -9,7 +9,7 @@ use Rattle.correction_theory.specs.Kept.{one}
 use Rattle.keeping.proofs.ones_of.Goals as goal
 
 pub loop-k-init : goal.loop-k-init
-loop-k-init c = (omega arith, ap length c.all_ones-held.ensures ∙ length-table max_pairs (λ _. 1), fill_none 0 _ _ _ (λ k. refl))
+loop-k-init c = (omega arith, ap length c.filled-held.ensures.throughout ∙ length-table max_pairs (λ _. 1), fill_none 0 _ _ _ (λ k. refl))
 
 pub loop-k-preserved : goal.loop-k-preserved
 loop-k-preserved c = (omega arith, simp length-set c.loop-k.invariant.1, fill_more 0 _ _ _ _ _ (omega arith) c.one_of.ensures c.loop-k.invariant.2)

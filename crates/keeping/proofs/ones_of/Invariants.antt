@@ -9,6 +9,3 @@ use Rattle.keeping.proofs.ones_of.Given as goal
 
 abbrev pub invariant-loop-k : goal.invariant-loop-k
 invariant-loop-k l = (l.k ≤ length l.distances) × (length l.held ≡ max_pairs) × Filled 0 (λ i. one (get_or l.distances i 0)) (λ i. get_or l.initial.held i 0) l.k l.held
-
-abbrev pub decreases-loop-k : goal.decreases-loop-k
-decreases-loop-k l = length l.distances - l.k

@@ -33,5 +33,4 @@ loop-v-preserved c = (omega arith, below_more _ _ c.loop-v.invariant.1 (sym (tes
 
 pub returns : goal.returns
 returns c = let ns = c.args.numerators.now in
-    let e : c.loop-v.v ≡ length ns = omega arith in
-    e ∙ sym (past_first (length ns) _ (λ i h. c.loop-v.invariant.1 i (omega arith)))
+    sym (past_first (length ns) _ (λ i h. c.loop-v.invariant.1 i (omega arith)))

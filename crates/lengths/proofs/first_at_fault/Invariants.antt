@@ -9,6 +9,3 @@ use Rattle.lengths.proofs.first_at_fault.Given as goal
 
 abbrev pub invariant-loop-v : goal.invariant-loop-v
 invariant-loop-v l = (l.v ≤ length l.numerators) × ((i : ℕ) → i < l.v → fault_by l.ask (get_or l.numerators i (pos 0)) ≡ false)
-
-abbrev pub decreases-loop-v : goal.decreases-loop-v
-decreases-loop-v l = length l.numerators - l.v

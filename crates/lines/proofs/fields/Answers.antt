@@ -32,30 +32,30 @@ turn : (b : List ℕ) (at : ℕ) (zs : List ℤ) (k : ℕ) → k < length zs →
 turn b at zs k h room {c} {d} {e} {i} {j} {l} s p q r =
     rw (add-one k, fields-more zs k) (wrote_then (omega (arith, fields-length (take k zs), length-take-le k zs (omega arith))) p (wrote_then (omega (arith, ends b c at i k zs (omega arith) p)) q r))
 
-pub loop-k-init : goal.loop-k-init
-loop-k-init c = (search rules, refl, none c.args.text.now c.args.at c.args.values.now)
+pub loop-value-init : goal.loop-value-init
+loop-value-init c = (search rules, refl, none c.args.text.now c.args.at c.args.values.now)
 
 pub put-number-requires : goal.put-number-requires
-put-number-requires c = let l = c.loop-k in
+put-number-requires c = let l = c.loop-value in
     let a = c.args in
-    omega (arith, ends a.text.now l.text a.at l.next l.k a.values.now l.invariant.0 l.invariant.2)
+    omega (arith, ends a.text.now l.text a.at l.next l.value-index a.values.now l.invariant.0 l.invariant.2)
 
 pub put_signed-next-requires : goal.put_signed-next-requires
-put_signed-next-requires c = let l = c.loop-k in
+put_signed-next-requires c = let l = c.loop-value in
     let a = c.args in
-    omega (arith, ends a.text.now l.text a.at l.next l.k a.values.now l.invariant.0 l.invariant.2, c.put-number.ensures.place)
+    omega (arith, ends a.text.now l.text a.at l.next l.value-index a.values.now l.invariant.0 l.invariant.2, c.put-number.ensures.place)
 
-pub loop-k-preserved : goal.loop-k-preserved
-loop-k-preserved c = let l = c.loop-k in
+pub loop-value-preserved : goal.loop-value-preserved
+loop-value-preserved c = let l = c.loop-value in
     let a = c.args in
-    let z = to_z-of_z {w = w64} {z = entry_of a.values.now l.k} (record { sfits = c.put_signed-arg-in-loop-k-1.given }) in (
+    let z = to_z-of_z {w = w64} {z = entry_of a.values.now l.value-index} (record { sfits = c.put_signed-arg-in-loop-value-1.given }) in (
       omega arith,
       search rules,
-      turn a.text.now a.at a.values.now l.k (omega arith) (omega arith) l.invariant.1 l.invariant.2 c.put-number.ensures (simp z at c.put_signed-next.ensures),
+      turn a.text.now a.at a.values.now l.value-index (omega arith) (omega arith) l.invariant.1 l.invariant.2 c.put-number.ensures (simp z at c.put_signed-next.ensures),
     )
 
 pub returns : goal.returns
 returns c = let a = c.args in
-    let l = c.loop-k in
-    let e : l.k ≡ length a.values.now = omega arith in
+    let l = c.loop-value in
+    let e : l.value-index ≡ length a.values.now = omega arith in
     rw (← take-length a.values.now, ← e) l.invariant.2

@@ -6,8 +6,5 @@ use Rattle.writing.specs.Text.{Wrote}
 use Rattle.lines.specs.Lines.{fields}
 use Rattle.lines.proofs.fields.Given as goal
 
-abbrev pub invariant-loop-k : goal.invariant-loop-k
-invariant-loop-k l = (l.k ≤ length l.values) × (length l.text ≡ length l.initial.text) × Wrote l.initial.text l.text l.at (fields (take l.k l.values)) l.next
-
-abbrev pub decreases-loop-k : goal.decreases-loop-k
-decreases-loop-k l = length l.values - l.k
+abbrev pub invariant-loop-value : goal.invariant-loop-value
+invariant-loop-value l = (l.value-index ≤ length l.values) × (length l.text ≡ length l.initial.text) × Wrote l.initial.text l.text l.at (fields (take l.value-index l.values)) l.next

@@ -7,6 +7,3 @@ use Rattle.long_decoding.proofs.denominator_digits.Given as goal
 
 abbrev pub invariant-loop-k : goal.invariant-loop-k
 invariant-loop-k l = Decoding 0 max_levels l.levels (natural_at l.s l.at) l.k l.held
-
-abbrev pub decreases-loop-k : goal.decreases-loop-k
-decreases-loop-k l = l.levels - l.k

@@ -7,6 +7,3 @@ use Rattle.long_decoding.proofs.digits_into.Given as goal
 
 abbrev pub invariant-loop-k : goal.invariant-loop-k
 invariant-loop-k l = Writing (pos 0) l.count (signed_at l.s l.at) l.initial.into l.k l.into
-
-abbrev pub decreases-loop-k : goal.decreases-loop-k
-decreases-loop-k l = l.count - l.k

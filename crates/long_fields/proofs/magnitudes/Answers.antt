@@ -7,7 +7,7 @@ use Rattle.long_fields.proofs.Numbers.{take-start, take-turn, take-end, place-lo
 use Rattle.long_fields.proofs.magnitudes.Goals as goal
 
 pub loop-k-init : goal.loop-k-init
-loop-k-init c = take-start _ _ _ _ _ c.no_digits-held.ensures
+loop-k-init c = take-start _ _ _ _ _ c.filled-held.ensures.throughout
 
 pub overflow_mul-k : goal.overflow_mul-k
 overflow_mul-k c = omega (arith, place-low c.args.levels c.args.edges c.args.digits.now c.args.v c.requires.long_row c.requires.levels_le_max_levels.1 c.loop-k.k c.loop-k-test.true)

@@ -5,6 +5,3 @@ use Rattle.long_fields.proofs.magnitudes.Given as goal
 
 abbrev pub invariant-loop-k : goal.invariant-loop-k
 invariant-loop-k l = Taking l.levels l.edges l.digits l.v l.k l.held
-
-abbrev pub decreases-loop-k : goal.decreases-loop-k
-decreases-loop-k l = l.levels - l.k

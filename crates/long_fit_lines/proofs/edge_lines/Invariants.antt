@@ -5,6 +5,3 @@ use Rattle.long_fit_lines.proofs.edge_lines.Given as goal
 
 abbrev pub invariant-loop-v : goal.invariant-loop-v
 invariant-loop-v l = Edging l.edges (row l.edges l.d l.digits l.rounded) l.initial.text l.text l.at l.v l.next
-
-abbrev pub decreases-loop-v : goal.decreases-loop-v
-decreases-loop-v l = l.edges - l.v

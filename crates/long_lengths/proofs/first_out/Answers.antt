@@ -1,7 +1,5 @@
 -- No numerator so far is out of its range.
 use mathlib.Core.Path.{◌≡◌, sym, ◌∙◌}
-use mathlib.Core.Bool.{false}
-use Prim.Native.Nat.{◌-◌}
 use native.Mathlib.Omega.{arith}
 use borrow.Author.Count.{below_none, below_more}
 use Rattle.verdict.proofs.Table.{first-is, past_first}
@@ -26,4 +24,4 @@ loop-v-preserved c = (omega (arith, c.loop-v-test.true), below_more _ _ c.loop-v
 pub returns : goal.returns
 returns c = let l = c.loop-v in
     let e : l.v ≡ c.args.edges = omega (arith, c.loop-v-test.false, l.invariant.0) in
-    e ∙ sym (past_first c.args.edges (long_numerator_out c.args.edges c.args.d.now c.args.digits.now) (λ i h. l.invariant.1 i (omega (arith, h, e))))
+    sym (past_first c.args.edges (long_numerator_out c.args.edges c.args.d.now c.args.digits.now) (λ i h. l.invariant.1 i (omega (arith, h, e))))

@@ -14,7 +14,7 @@ use Rattle.long_levels.proofs.Levelling.{level-start, level-turn, level-end, lev
 use Rattle.long_levels.proofs.f_levels.Goals as goal
 
 pub loop-k-init : goal.loop-k-init
-loop-k-init c = (level-start _ _ _ c.no_levels-sums.ensures, omega arith)
+loop-k-init c = (level-start _ _ _ c.filled-sums.ensures.throughout, omega arith)
 
 pub bounds-d-k : goal.bounds-d-k
 bounds-d-k c = omega (arith, c.requires.levels_le_max_levels.1, c.loop-k-test.true)

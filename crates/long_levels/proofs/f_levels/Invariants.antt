@@ -11,6 +11,3 @@ use Rattle.long_levels.proofs.f_levels.Given as goal
 
 abbrev pub invariant-loop-k : goal.invariant-loop-k
 invariant-loop-k l = Levelling l.levels (λ i. level_f l.edges l.squares (entry_of l.splits) (pos (get_or l.d i 0)) (digit_of l.edges l.digits i)) l.k l.sums × (l.at ≡ l.k * l.edges)
-
-abbrev pub decreases-loop-k : goal.decreases-loop-k
-decreases-loop-k l = l.levels - l.k

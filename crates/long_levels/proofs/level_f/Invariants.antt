@@ -7,6 +7,3 @@ use Rattle.long_levels.proofs.level_f.Given as goal
 
 abbrev pub invariant-loop-v : goal.invariant-loop-v
 invariant-loop-v l = FSoFar l.edges l.squares (entry_of l.splits) (entry_of l.level) (pos l.d) l.v l.f
-
-abbrev pub decreases-loop-v : goal.decreases-loop-v
-decreases-loop-v l = l.edges - l.v

@@ -6,7 +6,7 @@ use Rattle.long_levels.proofs.Levelling.{level-start, level-turn, level-end, oth
 use Rattle.long_levels.proofs.negated.Goals as goal
 
 pub loop-k-init : goal.loop-k-init
-loop-k-init c = level-start _ _ _ c.no_levels-others.ensures
+loop-k-init c = level-start _ _ _ c.filled-others.ensures.throughout
 
 pub overflow_sub-others : goal.overflow_sub-others
 overflow_sub-others c = let l = c.loop-k in other_fits (entry_of c.args.f.now l.k) (c.requires.by_index l.k c.loop-k-test.true)

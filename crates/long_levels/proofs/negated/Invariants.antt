@@ -7,6 +7,3 @@ use Rattle.long_levels.proofs.negated.Given as goal
 
 abbrev pub invariant-loop-k : goal.invariant-loop-k
 invariant-loop-k l = Levelling l.levels (λ i. pos 0 -ℤ entry_of l.f i) l.k l.others
-
-abbrev pub decreases-loop-k : goal.decreases-loop-k
-decreases-loop-k l = l.levels - l.k

@@ -6,7 +6,7 @@ use Rattle.long_levels.proofs.Levelling.{level-start, level-turn, level-end, pro
 use Rattle.long_levels.proofs.times_levels.Goals as goal
 
 pub loop-k-init : goal.loop-k-init
-loop-k-init c = level-start _ _ _ c.no_levels-products.ensures
+loop-k-init c = level-start _ _ _ c.filled-products.ensures.throughout
 
 pub overflow_cast-products : goal.overflow_cast-products
 overflow_cast-products c = digit-fits _ (c.requires.by_index c.loop-k.k)

@@ -7,6 +7,3 @@ use Rattle.long_levels.proofs.times_levels.Given as goal
 
 abbrev pub invariant-loop-k : goal.invariant-loop-k
 invariant-loop-k l = Levelling l.levels (λ i. pos (get_or l.d i 0) *ℤ pos l.count) l.k l.products
-
-abbrev pub decreases-loop-k : goal.decreases-loop-k
-decreases-loop-k l = l.levels - l.k

@@ -6,7 +6,7 @@ use Rattle.long_levels.proofs.Levelling.{level-start, level-turn, level-end, lev
 use Rattle.long_levels.proofs.total_levels.Goals as goal
 
 pub loop-k-init : goal.loop-k-init
-loop-k-init c = (level-start _ _ _ c.no_levels-sums.ensures, omega arith)
+loop-k-init c = (level-start _ _ _ c.filled-sums.ensures.throughout, omega arith)
 
 pub offset_bounds-digits-at : goal.offset_bounds-digits-at
 offset_bounds-digits-at c = let l = c.loop-k in omega (arith, level-room c.args.edges c.args.levels c.args.digits.now c.requires.levels_le_max_levels.2 c.requires.by_index l.k l.at c.loop-k-test.true l.invariant.1)

@@ -2,29 +2,35 @@
 use native.Mathlib.Omega.{arith}
 use lib.IntN.{pos}
 use lib.ListN.{get_or}
+use mathlib.Core.Path.{subst}
+use mathlib.Core.List.{List}
+use Prim.Native.Nat.{ℕ}
+use Rattle.std.specs.Prelude.{Option, IfSome}
 use Rattle.lines.specs.Lines.{mean_word}
 use Rattle.long_digits.specs.Digits.{natural}
 use Rattle.long_fields.proofs.Numbers.{two-wrote}
+use Rattle.long_lines.specs.LongLines.{Digits}
 use Rattle.long_lines.proofs.Lines.{digits-length, mean-none, mean-over}
 use Rattle.long_lines.proofs.mean_line.Goals as goal
+use Rattle.long_lines.proofs.mean_line.Goals.{In-Some}
 
-pub returns-then-not-some : goal.returns-then-not-some
-returns-then-not-some c = mean-none (pos (natural c.args.levels (λ k. get_or c.args.f.now k 0))) c.args.some (natural c.args.levels (λ k. get_or c.args.over.now k 0)) (c.if-not-some.true) c.put_word.ensures
+-- what it is over is in digits too
+over : (c : In-Some) → Digits c.args.levels c.in-Some.digits
+over c = subst (λ (o : Option (List ℕ)). IfSome o (λ ds. Digits c.args.levels ds)) c.in-Some.is c.requires.digits.1
 
-pub field-next-requires : goal.field-next-requires
-field-next-requires c = record {
-  levels_le_wide_size = (c.requires.digits.0.most, c.requires.digits.0.there, omega (arith, c.requires.room, c.put_word-next.ensures.place));
-  by_index = c.requires.digits.0.small;
-}
-
-pub field-next-requires-2 : goal.field-next-requires-2
-field-next-requires-2 c = let w = c.requires.digits.1 (c.if-not-some.false) in record {
+pub field-next-requires-in-Some : goal.field-next-requires-in-Some
+field-next-requires-in-Some c = let w = over (goal.at.field-next-requires-in-Some c).In-Some in record {
   levels_le_wide_size = (w.most, w.there, omega (arith, c.requires.room, c.field-next.ensures.place, digits-length c.requires.digits.0, c.put_word-next.ensures.place));
   by_index = w.small;
 }
 
 pub put-requires : goal.put-requires
-put-requires c = let w = c.requires.digits.1 (c.if-not-some.false) in omega (arith, c.requires.room, c.field-next-2.ensures.place, digits-length w, c.field-next.ensures.place, digits-length c.requires.digits.0, c.put_word-next.ensures.place)
+put-requires c = omega (arith, c.requires.room, c.field-next-in-Some.ensures.place, digits-length (over (goal.at.put-requires c).In-Some), c.field-next.ensures.place, digits-length c.requires.digits.0, c.put_word-next.ensures.place)
 
-pub returns : goal.returns
-returns c = let w = c.requires.digits.1 (c.if-not-some.false) in mean-over _ c.args.some _ (c.if-not-some.false) (two-wrote mean_word _ _ (omega (arith, c.requires.room, digits-length c.requires.digits.0, digits-length w)) c.put_word-next.ensures c.field-next.ensures c.field-next-2.ensures c.put.ensures)
+pub returns-in-None : goal.returns-in-None
+returns-in-None c = mean-none (pos (natural c.args.levels (λ k. get_or c.args.f.now k 0))) c.args.levels _ c.in-None.is c.put_word.ensures
+
+pub returns-in-Some : goal.returns-in-Some
+returns-in-Some c = let w = over (goal.at.returns-in-Some c).In-Some in
+    mean-over _ c.args.levels _ c.in-Some.digits c.in-Some.is
+    (two-wrote mean_word _ _ (omega (arith, c.requires.room, digits-length c.requires.digits.0, digits-length w)) c.put_word-next.ensures c.field-next.ensures c.field-next-in-Some.ensures c.put.ensures)

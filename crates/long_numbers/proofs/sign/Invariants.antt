@@ -6,6 +6,3 @@ use Rattle.long_numbers.proofs.sign.Given as goal
 
 abbrev pub invariant-loop-k : goal.invariant-loop-k
 invariant-loop-k l = Signing l.levels (entry_of l.f) l.k l.whole
-
-abbrev pub decreases-loop-k : goal.decreases-loop-k
-decreases-loop-k l = l.levels - l.k

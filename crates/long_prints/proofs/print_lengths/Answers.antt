@@ -8,7 +8,7 @@ use Rattle.long_prints.proofs.Sheets.{lengths-refused, lengths-accepted, lengths
 use Rattle.long_prints.proofs.print_lengths.Goals as goal
 
 pub long_numbered-report-requires : goal.long_numbered-report-requires
-long_numbered-report-requires c = lengths_stand c.args.rule c.args.n c.args.distances.now c.args.parents.now c.args.d.now c.args.digits.now c.judge_long_proposal-verdict.result c.judge_long_proposal-verdict.ensures c.requires.posted c.in-Accepted.is
+long_numbered-report-requires c = let a = c.args in lengths_stand a.rule a.n a.distances.now a.parents.now a.d.now a.digits.now c.in-Ok.ensures c.requires.posted
 
 pub long_fit_text-requires : goal.long_fit_text-requires
 long_fit_text-requires c = let p = c.long_numbered-report.ensures in
@@ -18,8 +18,8 @@ long_fit_text-requires c = let p = c.long_numbered-report.ensures in
       room = omega (arith, c.requires.long_page_size_in_bounds);
     }
 
-pub returns-in-Refused : goal.returns-in-Refused
-returns-in-Refused c = lengths-refused c.args.rule c.args.n c.args.distances.now c.args.parents.now c.args.d.now c.args.digits.now c.judge_long_proposal-verdict.result c.judge_long_proposal-verdict.ensures c.in-Refused.refusal _ c.in-Refused.is c.number.ensures c.refused_line.ensures
+pub returns-in-Err : goal.returns-in-Err
+returns-in-Err c = let a = c.args in lengths-refused a.rule a.n a.distances.now a.parents.now a.d.now a.digits.now c.in-Err.refusal _ c.in-Err.ensures c.from.ensures c.refused_line.ensures
 
-pub returns-in-Accepted : goal.returns-in-Accepted
-returns-in-Accepted c = lengths-accepted c.args.rule c.args.n c.args.distances.now c.args.parents.now c.args.d.now c.args.digits.now c.judge_long_proposal-verdict.result c.judge_long_proposal-verdict.ensures c.long_numbered-report.result c.in-Accepted.is c.long_numbered-report.ensures c.long_fit_text.ensures
+pub returns-in-Ok : goal.returns-in-Ok
+returns-in-Ok c = let a = c.args in lengths-accepted a.rule a.n a.distances.now a.parents.now a.d.now a.digits.now c.long_numbered-report.result c.in-Ok.ensures c.long_numbered-report.ensures c.long_fit_text.ensures

@@ -8,7 +8,7 @@ use Rattle.long_reporting.proofs.Reporting.{rounding-start, rounding-turn, round
 use Rattle.long_reporting.proofs.long_rounded.Goals as goal
 
 pub loop-v-init : goal.loop-v-init
-loop-v-init c = rounding-start _ _ _ c.edge_zeros-lengths.ensures
+loop-v-init c = rounding-start _ _ _ c.filled-lengths.ensures.throughout
 
 pub long_thousandths-requires : goal.long_thousandths-requires
 long_thousandths-requires c = record {

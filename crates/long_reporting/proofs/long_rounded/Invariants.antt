@@ -8,6 +8,3 @@ use Rattle.long_reporting.proofs.long_rounded.Given as goal
 
 abbrev pub invariant-loop-v : goal.invariant-loop-v
 invariant-loop-v l = Rounding l.edges (λ u. nearest (long_denominator (length l.d) l.d) (long_numerator (length l.d) l.edges l.digits u)) l.v l.lengths
-
-abbrev pub decreases-loop-v : goal.decreases-loop-v
-decreases-loop-v l = l.edges - l.v

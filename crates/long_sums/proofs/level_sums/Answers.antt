@@ -14,7 +14,7 @@ remainders-requires c = let w = c.requires.ready in
       splittable = level-splits w (complete (goal.at.remainders-requires c).Else-some_missing);
       lengthened = level-lengths w;
       d_le_max_denominator = w.most;
-      sums_value = c.no_tops-sums.ensures;
+      sums_value = c.filled-sums.ensures.throughout;
     }
 
 pub returns : goal.returns

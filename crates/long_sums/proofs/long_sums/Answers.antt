@@ -6,7 +6,7 @@ use Rattle.long_sums.proofs.Gathering.{gather_start, gather_end, level-room, lev
 use Rattle.long_sums.proofs.long_sums.Goals as goal
 
 pub loop-k-init : goal.loop-k-init
-loop-k-init c = gather_start c.requires _ c.no_tops-tops.ensures
+loop-k-init c = gather_start c.requires _ c.filled-tops.ensures.throughout
 
 pub offset_bounds-d-k : goal.offset_bounds-d-k
 offset_bounds-d-k c = omega (arith, c.loop-k-test.true, c.requires.levels)

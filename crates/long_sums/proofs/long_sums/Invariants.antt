@@ -5,6 +5,3 @@ use Rattle.long_sums.proofs.long_sums.Given as goal
 
 abbrev pub invariant-loop-k : goal.invariant-loop-k
 invariant-loop-k l = Gathered l.n l.edges l.levels l.d l.distances l.parents l.digits l.k l.at l.tops
-
-abbrev pub decreases-loop-k : goal.decreases-loop-k
-decreases-loop-k l = l.levels - l.k

@@ -4,7 +4,7 @@ use Rattle.long_sums.proofs.Topping.{top_start, top-end, top-room, top-levels, t
 use Rattle.long_sums.proofs.long_tops.Goals as goal
 
 pub loop-k-init : goal.loop-k-init
-loop-k-init c = top_start c.requires _ c.no_tops-tops.ensures
+loop-k-init c = top_start c.requires _ c.filled-tops.ensures.throughout
 
 pub offset_bounds-digits-at : goal.offset_bounds-digits-at
 offset_bounds-digits-at c = omega (arith, top-room c.requires c.loop-k.invariant c.loop-k-test.true)

@@ -4,6 +4,3 @@ use Rattle.long_sums.proofs.long_tops.Given as goal
 
 abbrev pub invariant-loop-k : goal.invariant-loop-k
 invariant-loop-k l = Topped l.edges l.levels l.digits l.k l.at l.tops
-
-abbrev pub decreases-loop-k : goal.decreases-loop-k
-decreases-loop-k l = l.levels - l.k

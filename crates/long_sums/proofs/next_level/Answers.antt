@@ -8,7 +8,7 @@ use Rattle.long_sums.proofs.Filling.{fill_start, fill_turn, fill_end, top_back, 
 use Rattle.long_sums.proofs.next_level.Goals as goal
 
 pub loop-v-init : goal.loop-v-init
-loop-v-init c = fill_start _ _ _ c.no_tops-next.ensures
+loop-v-init c = fill_start _ _ _ c.filled-next.ensures.throughout
 
 pub next_digit-requires : goal.next_digit-requires
 next_digit-requires c = let w = c.requires.levels in

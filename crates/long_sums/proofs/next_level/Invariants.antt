@@ -9,6 +9,3 @@ use Rattle.long_sums.proofs.next_level.Given as goal
 
 abbrev pub invariant-loop-v : goal.invariant-loop-v
 invariant-loop-v l = Filling l.edges (λ u. clamp most (pos base *ℤ entry_of l.tops u +ℤ entry_of l.sums u)) l.v l.next
-
-abbrev pub decreases-loop-v : goal.decreases-loop-v
-decreases-loop-v l = l.edges - l.v

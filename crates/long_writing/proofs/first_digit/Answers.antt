@@ -14,4 +14,4 @@ pub loop-k-preserved : goal.loop-k-preserved
 loop-k-preserved c = let l = c.loop-k in (omega (arith, c.loop-k-test.true), below_more _ _ l.invariant.1 c.if-digits-k-ne0.false)
 
 pub returns : goal.returns
-returns c = let l = c.loop-k in record { here = l.invariant.0; zeros = l.invariant.1; some = λ h. absurd (omega (arith, h, c.loop-k-test.false)) }
+returns c = record { here = omega arith; zeros = λ i h. c.loop-k.invariant.1 i (omega (arith, h)); some = λ h. absurd (omega (arith, h)) }

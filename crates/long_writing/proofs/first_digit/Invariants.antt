@@ -6,6 +6,3 @@ use Rattle.long_writing.proofs.first_digit.Given as goal
 
 abbrev pub invariant-loop-k : goal.invariant-loop-k
 invariant-loop-k l = (l.k ≤ l.levels) × ((i : ℕ) → i < l.k → get_or l.digits i 0 ≡ 0)
-
-abbrev pub decreases-loop-k : goal.decreases-loop-k
-decreases-loop-k l = l.levels - l.k

@@ -6,6 +6,3 @@ use Rattle.long_writing.proofs.put_sixes.Given as goal
 
 abbrev pub invariant-loop-k : goal.invariant-loop-k
 invariant-loop-k l = Sixing l.from l.levels (λ i. get_or l.digits i 0) l.initial.text l.text l.at l.k l.next
-
-abbrev pub decreases-loop-k : goal.decreases-loop-k
-decreases-loop-k l = l.levels - l.k

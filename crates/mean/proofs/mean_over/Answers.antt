@@ -12,9 +12,9 @@ returns-then-some_missing c = let a = c.args in
     sym (missing-none a.n a.distances.now a.edges a.d (sym c.some_missing.ensures ∙ c.if-some_missing.true))
 
 pub times-requires : goal.times-requires
-times-requires c = omega (arith, c.left.ensures, c.pair_count-pairs.ensures, pairs-few c.args.n c.requires.few)
+times-requires c = omega (arith, c.saturating_sub.ensures, c.pair_count-pairs.ensures, pairs-few c.args.n c.requires.few)
 
 pub returns : goal.returns
 returns c = let a = c.args in
-    c.times.ensures ∙ ap (times a.d) (c.left.ensures ∙ ap (λ (k : ℕ). k - a.edges) c.pair_count-pairs.ensures)
+    c.times.ensures ∙ ap (times a.d) (c.saturating_sub.ensures ∙ ap (λ (k : ℕ). k - a.edges) c.pair_count-pairs.ensures)
     ∙ sym (complete-times a.n a.distances.now a.edges a.d (sym c.some_missing.ensures ∙ c.if-some_missing.false))

@@ -8,7 +8,7 @@ use mir.Syntax.{w64}
 use mir.Val.{to_z}
 use Rattle.exact.proofs.Sign.{fits_abs, back, back-pos}
 use Rattle.matrix.specs.Limits.{max_pairs}
-use Rattle.mean.specs.declared.Mean.TheVariants.{Over}
+use Rattle.std.specs.Prelude.{Some}
 use Rattle.mean.proofs.Divisor.{times-some}
 use Rattle.mean.proofs.times.Goals as goal
 use Rattle.mean.proofs.times.Goals.{Start}
@@ -24,4 +24,4 @@ pub overflow_mul-result : goal.overflow_mul-result
 overflow_mul-result c = fits_abs _ (omega (arith, few c.before))
 
 pub returns : goal.returns
-returns c = ap Over (back _ (omega (arith, few c.before)) ∙ product c.before) ∙ sym (times-some c.args.d c.args.left (omega arith))
+returns c = ap Some (back _ (omega (arith, few c.before)) ∙ product c.before) ∙ sym (times-some c.args.d c.args.left (omega arith))

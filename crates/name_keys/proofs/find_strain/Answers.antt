@@ -16,7 +16,7 @@ module _ (c : Then-i-n) where
   start = c.before.before.before.before.before.before.before.before
 
   abbrev i : ℕ
-  i = c.wide-i.result
+  i = c.from-i.result
 
   abbrev at : ℕ
   at = get_or start.args.starts.now i 0
@@ -41,5 +41,5 @@ slice_bounds-same-end c = room (goal.at.slice_bounds-same-end c).Then-i-n
 
 pub returns-then-same : goal.returns-then-same
 returns-then-same c = let p = start (goal.at.returns-then-same c).Then-i-n in let a = p.args in
-    key_found a.s.now a.from a.n a.firsts.now p.requires.first a.name.now (i (goal.at.returns-then-same c).Then-i-n) (c.wide-i.ensures ∙ ap (λ (x : ℕ). get_or a.firsts.now x 0) c.key_of-key.ensures.0) c.if-i-n.true
+    key_found a.s.now a.from a.n a.firsts.now p.requires.first a.name.now (i (goal.at.returns-then-same c).Then-i-n) (c.from-i.ensures ∙ ap (λ (x : ℕ). get_or a.firsts.now x 0) c.key_of-key.ensures.0) c.if-i-n.true
     (sym (ap (λ (x : List ℕ). same x a.name.now) (lent_is a.s.now a.from (i (goal.at.returns-then-same c).Then-i-n) (at (goal.at.returns-then-same c).Then-i-n) (p.requires.begins (i (goal.at.returns-then-same c).Then-i-n) c.if-i-n.true))) ∙ sym c.same.ensures ∙ c.if-same.true)

@@ -22,7 +22,7 @@ told c =
     c.key_of-key.ensures.0 ∙ ap (key_from 0) (lent_is c.args.s.now c.args.from c.loop-i.i c.loop-i.at c.loop-i.invariant.0.place)
 
 pub loop-i-init : goal.loop-i-init
-loop-i-init c = (at_first_lem c.args.s.now c.args.from c.args.n, first-none c.args.s.now c.args.from _ c.no_strains-firsts.ensures)
+loop-i-init c = (at_first_lem c.args.s.now c.args.from c.args.n, first-none c.args.s.now c.args.from _ c.filled-firsts.ensures.size)
 
 pub overflow_add-start : goal.overflow_add-start
 overflow_add-start c = record { fits = omega (arith, room c) }

@@ -6,6 +6,3 @@ use Rattle.name_keys.proofs.first_strains.Given as goal
 
 abbrev pub invariant-loop-i : goal.invariant-loop-i
 invariant-loop-i l = (At l.s l.from l.n l.at l.i) × Firsts l.s l.from l.i l.firsts
-
-abbrev pub decreases-loop-i : goal.decreases-loop-i
-decreases-loop-i l = l.n - l.i

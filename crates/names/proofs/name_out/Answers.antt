@@ -17,9 +17,6 @@ overflow_add-start c = record { fits = omega (arith, room c.before.before) }
 pub bounds-s-at : goal.bounds-s-at
 bounds-s-at c = omega (arith, room c.before.before.before)
 
-pub overflow_cast-end : goal.overflow_cast-end
-overflow_cast-end c = record { fits = omega (arith, c.shared_slice_known-2-1.given c.args.at) }
-
 pub overflow_add-end : goal.overflow_add-end
 overflow_add-end c = record { fits = omega (arith, room c.before.before.before) }
 

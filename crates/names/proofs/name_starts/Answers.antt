@@ -15,16 +15,13 @@ room c =
     at-within c.args.s.now c.args.from c.args.n c.loop-i.invariant.0 c.requires.1 c.loop-i-test.true
 
 pub loop-i-init : goal.loop-i-init
-loop-i-init c = (at_first_lem c.args.s.now c.args.from c.args.n, decode_start 0 max_strains _ _ _ c.no_starts-starts.ensures)
+loop-i-init c = (at_first_lem c.args.s.now c.args.from c.args.n, decode_start 0 max_strains _ _ _ c.filled-starts.ensures.throughout)
 
 pub overflow_add-at : goal.overflow_add-at
 overflow_add-at c = record { fits = omega (arith, room c) }
 
 pub bounds-s-at : goal.bounds-s-at
 bounds-s-at c = omega (arith, room (goal.at.bounds-s-at c).In-loop-i)
-
-pub overflow_cast-at : goal.overflow_cast-at
-overflow_cast-at c = record { fits = omega (arith, c.shared_slice_known-in-loop-i-1.given c.loop-i.at) }
 
 pub overflow_add-at-in-loop-i : goal.overflow_add-at-in-loop-i
 overflow_add-at-in-loop-i c = record { fits = omega (arith, room (goal.at.overflow_add-at-in-loop-i c).In-loop-i) }

@@ -22,16 +22,13 @@ told c =
     c.key_of-key.ensures.0 ∙ ap (key_from 0) (lent_is c.args.s.now c.args.from c.loop-i.i c.loop-i.at c.loop-i.invariant.0.place)
 
 pub loop-i-init : goal.loop-i-init
-loop-i-init c = (at_first_lem c.args.s.now c.args.from c.args.n, below_none _, key_none c.args.s.now c.args.from _ c.no_keys-known.ensures)
+loop-i-init c = (at_first_lem c.args.s.now c.args.from c.args.n, below_none _, key_none c.args.s.now c.args.from _ c.filled-known.ensures.size)
 
 pub overflow_add-start : goal.overflow_add-start
 overflow_add-start c = record { fits = omega (arith, room c) }
 
 pub bounds-s-at : goal.bounds-s-at
 bounds-s-at c = omega (arith, room (goal.at.bounds-s-at c).In-loop-i)
-
-pub overflow_cast-end : goal.overflow_cast-end
-overflow_cast-end c = record { fits = omega (arith, c.shared_slice_known-in-loop-i-1.given c.loop-i.at) }
 
 pub overflow_add-end : goal.overflow_add-end
 overflow_add-end c = record { fits = omega (arith, room (goal.at.overflow_add-end c).In-loop-i) }

@@ -1,7 +1,7 @@
 -- Name after name, and none before the one at hand was out; the keys of those before it are known.
 use mathlib.Core.Path.{◌≡◌}
 use mathlib.Core.Bool.{false}
-use Prim.Native.Nat.{ℕ, ◌-◌, ◌<◌}
+use Prim.Native.Nat.{ℕ, ◌<◌}
 use Rattle.names.specs.Record.{name_out}
 use Rattle.names.proofs.Keys.{Known}
 use Rattle.names.proofs.Walking.{At}
@@ -9,6 +9,3 @@ use Rattle.names.proofs.names_out.Given as goal
 
 abbrev pub invariant-loop-i : goal.invariant-loop-i
 invariant-loop-i l = (At l.s l.from l.n l.at l.i) × ((k : ℕ) → k < l.i → name_out l.s l.from k ≡ false) × Known l.s l.from l.i l.known
-
-abbrev pub decreases-loop-i : goal.decreases-loop-i
-decreases-loop-i l = l.n - l.i

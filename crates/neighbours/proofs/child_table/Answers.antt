@@ -50,13 +50,13 @@ module _ (c : In-loop-v) where
   )
 
 pub loop-v-init : goal.loop-v-init
-loop-v-init c = let e = c.no_children-listed.ensures in let f = c.no_counts-counts.ensures in
+loop-v-init c = let e = c.filled-listed.ensures.throughout in let f = c.filled-counts.ensures.throughout in
     let par = parent_of c.args.parents.now in (
       omega arith,
       ap length e ∙ length-table child_room _,
       ap length f ∙ length-table max_vertices _,
-      tally-none par c.no_counts-counts.result (λ w. ap (λ (l : List ℕ). get_or l w 0) f ∙ get_or_table_const max_vertices 0 w),
-      lists_none par c.no_children-listed.result (λ k. ap (λ (l : List ℕ). get_or l k 0) e ∙ get_or_table_const child_room 0 k),
+      tally-none par c.filled-counts.result (λ w. ap (λ (l : List ℕ). get_or l w 0) f ∙ get_or_table_const max_vertices 0 w),
+      lists_none par c.filled-listed.result (λ k. ap (λ (l : List ℕ). get_or l k 0) e ∙ get_or_table_const child_room 0 k),
     )
 
 pub bounds-parents-v : goal.bounds-parents-v
@@ -88,9 +88,6 @@ overflow_add-counts c = record { fits = omega (arith, less (goal.at.overflow_add
 
 pub bounds-counts-p-in-loop-v : goal.bounds-counts-p-in-loop-v
 bounds-counts-p-in-loop-v c = omega (arith, top (goal.at.bounds-counts-p-in-loop-v c).In-loop-v)
-
-pub overflow_add-v : goal.overflow_add-v
-overflow_add-v c = record { fits = omega (arith, few (goal.at.overflow_add-v c).In-loop-v, edge (goal.at.overflow_add-v c).In-loop-v) }
 
 pub loop-v-preserved : goal.loop-v-preserved
 loop-v-preserved c = let l = c.loop-v.listed in let i = c.loop-v.invariant in (

@@ -11,6 +11,3 @@ use Rattle.neighbours.proofs.child_table.Given as goal
 
 abbrev pub invariant-loop-v : goal.invariant-loop-v
 invariant-loop-v l = (l.v ≤ length l.parents) × (length l.listed ≡ child_room) × (length l.counts ≡ max_vertices) × Tallied (parent_of l.parents) l.v l.counts × Lists (parent_of l.parents) l.v l.listed
-
-abbrev pub decreases-loop-v : goal.decreases-loop-v
-decreases-loop-v l = length l.parents - l.v

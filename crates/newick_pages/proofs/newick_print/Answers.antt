@@ -12,20 +12,20 @@ returns-then-text-lt-PAGE c = small_page _ _ _ c.if-text-lt-PAGE.true
 pub slice_bounds-write_sheet-end-2 : goal.slice_bounds-write_sheet-end-2
 slice_bounds-write_sheet-end-2 c = sym (part_length c.args.text.now max_text (omega (arith, c.if-text-lt-PAGE.false)))
 
-pub refused_line-requires : goal.refused_line-requires
-refused_line-requires c = omega (arith, still-long c.args.s.now c.args.text.now c.write_sheet-told.new.text c.write_sheet-told.result c.if-text-lt-PAGE.false c.write_sheet-told.ensures c.write_sheet-told.auto.text, c.if-text-lt-PAGE.false)
-
-pub shape_of-text-in-Refused : goal.shape_of-text-in-Refused
-shape_of-text-in-Refused c = c.refused_line.auto.text ∙ still-long c.args.s.now c.args.text.now c.write_sheet-told.new.text c.write_sheet-told.result c.if-text-lt-PAGE.false c.write_sheet-told.ensures c.write_sheet-told.auto.text
-
-pub returns-in-Refused : goal.returns-in-Refused
-returns-in-Refused c = shows-refusal c.args.s.now c.args.text.now c.write_sheet-told.new.text c.write_sheet-told.result c.if-text-lt-PAGE.false c.write_sheet-told.ensures c.write_sheet-told.auto.text c.in-Refused.refusal c.in-Refused.is c.refused_line.new.text c.refused_line.result _ c.number.ensures c.refused_line.ensures
-
 pub put-requires : goal.put-requires
-put-requires c = line-room c.args.s.now c.args.text.now c.write_sheet-told.new.text c.write_sheet-told.result c.if-text-lt-PAGE.false c.write_sheet-told.ensures c.write_sheet-told.auto.text c.in_default.is
+put-requires c = line-room c.args.s.now c.args.text.now c.write_sheet.new.text c.if-text-lt-PAGE.false c.write_sheet.auto.text c.in-Ok.end c.in-Ok.ensures
 
-pub shape_of-text : goal.shape_of-text
-shape_of-text c = c.put.auto.text ∙ still-long c.args.s.now c.args.text.now c.write_sheet-told.new.text c.write_sheet-told.result c.if-text-lt-PAGE.false c.write_sheet-told.ensures c.write_sheet-told.auto.text
+pub shape_of-text-in-Ok : goal.shape_of-text-in-Ok
+shape_of-text-in-Ok c = c.put.auto.text ∙ still-long c.args.s.now c.args.text.now c.write_sheet.new.text c.if-text-lt-PAGE.false c.write_sheet.auto.text
 
-pub returns : goal.returns
-returns c = shows-text c.args.s.now c.args.text.now c.write_sheet-told.new.text c.write_sheet-told.result c.if-text-lt-PAGE.false c.write_sheet-told.ensures c.write_sheet-told.auto.text c.in_default.is c.put.new.text c.put.result c.put.ensures
+pub returns-in-Ok : goal.returns-in-Ok
+returns-in-Ok c = shows-text c.args.s.now c.args.text.now c.write_sheet.new.text c.if-text-lt-PAGE.false c.write_sheet.auto.text c.in-Ok.end c.in-Ok.ensures c.put.new.text c.put.result c.put.ensures
+
+pub refused_line-requires : goal.refused_line-requires
+refused_line-requires c = omega (arith, still-long c.args.s.now c.args.text.now c.write_sheet.new.text c.if-text-lt-PAGE.false c.write_sheet.auto.text, c.if-text-lt-PAGE.false)
+
+pub shape_of-text-in-Err : goal.shape_of-text-in-Err
+shape_of-text-in-Err c = c.refused_line.auto.text ∙ still-long c.args.s.now c.args.text.now c.write_sheet.new.text c.if-text-lt-PAGE.false c.write_sheet.auto.text
+
+pub returns-in-Err : goal.returns-in-Err
+returns-in-Err c = shows-refusal c.args.s.now c.args.text.now c.write_sheet.new.text c.if-text-lt-PAGE.false c.write_sheet.auto.text c.in-Err.refusal c.in-Err.ensures c.refused_line.new.text c.refused_line.result _ c.from.ensures c.refused_line.ensures

@@ -17,6 +17,7 @@ use Rattle.newick_put.proofs.Putting.{word-length}
 use Rattle.newick_put.proofs.Laying.{Doing, laid_leaf, leaf-size, starts-row, child, closes, some-room, none-room}
 use Rattle.newick_put.proofs.+put_vertex.Invariants.{rest}
 use Rattle.newick_put.proofs.+put_vertex.Goals as goal
+use Rattle.newick_put.proofs.+put_vertex.Goals.{then-parents-child, else-parents-child}
 
 module _ (parents : List ℕ) (lengths : List ℤ) (names starts : List ℕ) (n v : ℕ) where
   abbrev tree : ℕ → Tree
@@ -63,8 +64,8 @@ returns-then-v-n t c =
     rw (leaf-is a.parents.now (word_at a.names.now a.starts.now) (edge_text a.lengths.now) a.n a.v c.if-v-n.true)
     (laid_leaf (word_at a.names.now a.starts.now a.v) a.text.now p.new.text a.at p.result (omega (arith, r)) p.ensures)
 
-pub loop-w-init : goal.loop-w-init
-loop-w-init t c =
+pub loop-child-init : goal.loop-child-init
+loop-child-init t c =
     let a = c.args in
     let r = rest a.parents.now a.lengths.now a.names.now a.starts.now a.n a.v 0 in (
       omega arith,
@@ -75,39 +76,41 @@ loop-w-init t c =
 pub put_vertex-below-requires : goal.put_vertex-below-requires
 put_vertex-below-requires t c =
     let a = c.args in
-    let l = c.loop-w in
-    let r = room a.parents.now a.lengths.now a.names.now a.starts.now a.n a.v l.lead a.text.now l.text a.at l.end l.w l.invariant.1 c.requires.widest_length_in_bounds c.loop-w-test.true c.if-parents-child.true in
-    (omega (arith, c.decreases, c.loop-w-test.true), ((omega (arith, c.requires.v_in_bounds.0, c.loop-w-test.true), c.requires.v_in_bounds.1, c.requires.v_in_bounds.2), simp length-set (omega (arith, r))))
+    let l = c.loop-child in
+    let r = room a.parents.now a.lengths.now a.names.now a.starts.now a.n a.v l.lead a.text.now l.text a.at l.end l.child l.invariant.1 c.requires.widest_length_in_bounds c.loop-child-test.true c.if-parents-child.true in
+    (omega (arith, c.decreases, c.loop-child-test.true), ((omega (arith, c.requires.v_in_bounds.0, c.loop-child-test.true), c.requires.v_in_bounds.1, c.requires.v_in_bounds.2), simp length-set (omega (arith, r))))
 
 pub put_edge-end-requires : goal.put_edge-end-requires
 put_edge-end-requires t c =
     let a = c.args in
-    let l = c.loop-w in
-    let r = room a.parents.now a.lengths.now a.names.now a.starts.now a.n a.v l.lead a.text.now l.text a.at l.end l.w l.invariant.1 c.requires.widest_length_in_bounds c.loop-w-test.true c.if-parents-child.true in
+    let l = c.loop-child in
+    let r = room a.parents.now a.lengths.now a.names.now a.starts.now a.n a.v l.lead a.text.now l.text a.at l.end l.child l.invariant.1 c.requires.widest_length_in_bounds c.loop-child-test.true c.if-parents-child.true in
     let p = c.put_vertex-below in
     omega (arith, r, p.ensures.end, p.ensures.same, length-set l.text l.end l.lead)
 
-pub loop-w-preserved-then-parents-child : goal.loop-w-preserved-then-parents-child
-loop-w-preserved-then-parents-child t c =
+pub loop-child-preserved : goal.loop-child-preserved
+loop-child-preserved t c =
     let a = c.args in
-    let l = c.loop-w in
-    let r = room a.parents.now a.lengths.now a.names.now a.starts.now a.n a.v l.lead a.text.now l.text a.at l.end l.w l.invariant.1 c.requires.widest_length_in_bounds c.loop-w-test.true c.if-parents-child.true in
-    let p = c.put_vertex-below in
-    let q = c.put_edge-end in
-    let fits : SFits w64 (entry_of a.lengths.now l.w) = search rules in
-    let back = to_z-of_z {w = w64} {z = entry_of a.lengths.now l.w} fits in
-    (omega (arith, c.loop-w-test.true), child _ _ _ _ _ _ _ _ _ _ _ _ _ (omega (arith, r)) (due a.parents.now a.lengths.now a.names.now a.starts.now a.n a.v l.lead a.text.now l.text a.at l.end l.w l.invariant.1 c.requires.widest_length_in_bounds c.loop-w-test.true c.if-parents-child.true) p.ensures (omega (arith, r, p.ensures.end, p.ensures.same, length-set l.text l.end l.lead)) (simp back at q.ensures))
-
-pub loop-w-preserved : goal.loop-w-preserved
-loop-w-preserved t c =
-    let a = c.args in
-    let l = c.loop-w in
-    (omega arith, rw (← (row_skip a.parents.now (edge_text a.lengths.now) a.v (tree_at a.parents.now a.lengths.now a.names.now a.starts.now a.n) l.w c.loop-w-test.true c.if-parents-child.false)) l.invariant.1)
+    let l = c.loop-child in (
+      omega arith,
+      elim c.if-parents-child.branch [
+        | then-parents-child w ↦
+            let r = room a.parents.now a.lengths.now a.names.now a.starts.now a.n a.v l.lead a.text.now l.text a.at l.end l.child l.invariant.1 c.requires.widest_length_in_bounds c.loop-child-test.true w.if-parents-child.true in
+            let p = w.put_vertex-below in
+            let fits : SFits w64 (entry_of a.lengths.now l.child) = search rules in
+            let back = to_z-of_z {w = w64} {z = entry_of a.lengths.now l.child} fits in
+            rw (w.text-is, w.lead-is, w.end-is)
+            (child _ _ _ _ _ _ _ _ _ _ _ _ _ (omega (arith, r)) (due a.parents.now a.lengths.now a.names.now a.starts.now a.n a.v l.lead a.text.now l.text a.at l.end l.child l.invariant.1 c.requires.widest_length_in_bounds c.loop-child-test.true w.if-parents-child.true) p.ensures (omega (arith, r, p.ensures.end, p.ensures.same, length-set l.text l.end l.lead)) (simp back at w.put_edge-end.ensures))
+        | else-parents-child w ↦
+            rw (w.text-is, w.lead-is, w.end-is)
+            (rw (← (row_skip a.parents.now (edge_text a.lengths.now) a.v (tree_at a.parents.now a.lengths.now a.names.now a.starts.now a.n) l.child c.loop-child-test.true w.if-parents-child.false)) l.invariant.1)
+      ],
+    )
 
 pub returns : goal.returns
 returns t c =
     let a = c.args in
-    let l = c.loop-w in
-    let d = all a.parents.now a.lengths.now a.names.now a.starts.now a.n a.v l.lead a.text.now l.text a.at l.end l.w l.invariant.1 c.requires.widest_length_in_bounds c.loop-w-test.false in
-    let r = last-room a.parents.now a.lengths.now a.names.now a.starts.now a.n a.v l.lead a.text.now l.text a.at l.end l.w l.invariant.1 c.requires.widest_length_in_bounds c.loop-w-test.false in
+    let l = c.loop-child in
+    let d = all a.parents.now a.lengths.now a.names.now a.starts.now a.n a.v l.lead a.text.now l.text a.at l.end l.child l.invariant.1 c.requires.widest_length_in_bounds c.loop-child-test.false in
+    let r = last-room a.parents.now a.lengths.now a.names.now a.starts.now a.n a.v l.lead a.text.now l.text a.at l.end l.child l.invariant.1 c.requires.widest_length_in_bounds c.loop-child-test.false in
     closes _ _ _ _ _ _ (omega (arith, r)) d

@@ -16,8 +16,5 @@ rest parents lengths names starts n v w = row_from parents (edge_text lengths) v
 abbrev pub decreases-put_vertex : goal.decreases-put_vertex
 decreases-put_vertex l = l.v
 
-abbrev pub invariant-loop-w : goal.invariant-loop-w
-invariant-loop-w l = (l.w ≤ l.v) × Doing (tree_at l.parents l.lengths l.names l.starts l.n l.v) (rest l.parents l.lengths l.names l.starts l.n l.v l.w) l.lead l.initial.text l.text l.at l.end
-
-abbrev pub decreases-loop-w : goal.decreases-loop-w
-decreases-loop-w l = l.v - l.w
+abbrev pub invariant-loop-child : goal.invariant-loop-child
+invariant-loop-child l = (l.child ≤ l.v) × Doing (tree_at l.parents l.lengths l.names l.starts l.n l.v) (rest l.parents l.lengths l.names l.starts l.n l.v l.child) l.lead l.initial.text l.text l.at l.end

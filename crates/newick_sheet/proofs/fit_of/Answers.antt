@@ -1,64 +1,55 @@
 -- What was read is judged; the lengths of what passes are rounded.
 use mathlib.Core.Path.{refl}
 use native.Mathlib.Omega.{arith}
+use Rattle.verdict.proofs.Answers.{handed_on}
 use Rattle.fit_theory.specs.Stands.{Posted}
 use Rattle.reading.proofs.Parts.{Parts, Lengths, read-parts, read-posted, read-lengths, to-parts}
-use Rattle.newick_sheet.proofs.Fits.{reader_refused, judge_refused, proper, judge_passed}
+use Rattle.newick_sheet.specs.Named.{FittingAnswer}
+use Rattle.newick_sheet.proofs.Fits.{reader_refused, told, proper, judge_passed}
 use Rattle.newick_sheet.proofs.fit_of.Goals as goal
-use Rattle.newick_sheet.proofs.fit_of.Goals.{In_default}
+use Rattle.newick_sheet.proofs.fit_of.Goals.{In_ok-sheet}
 
 -- what was read, where the reader accepts
-held : (c : In_default) → Parts c.args.s.now c.read-sheet.result
-held c = read-parts 4 _ _ (omega arith) c.read-sheet.ensures c.in_default.is
+held : (c : In_ok-sheet) → Parts c.args.s.now c.in_ok-sheet.sheet
+held c = read-parts 4 _ _ (omega arith) c.in_ok-sheet.ensures
 
-proposed : (c : In_default) → Lengths c.args.s.now c.read-sheet.result
-proposed c = read-lengths 4 _ _ (omega arith) c.read-sheet.ensures c.in_default.is
+proposed : (c : In_ok-sheet) → Lengths c.args.s.now c.in_ok-sheet.sheet
+proposed c = read-lengths 4 _ _ (omega arith) c.in_ok-sheet.ensures
 
-pub returns-in-Refused : goal.returns-in-Refused
-returns-in-Refused c = reader_refused c.args.s.now c.requires c.read-sheet.result c.read-sheet.ensures c.in-Refused.refusal c.unfitted.result c.in-Refused.is c.unfitted.ensures
-
-pub slice_bounds-distances-end : goal.slice_bounds-distances-end
-slice_bounds-distances-end c = (held (goal.at.slice_bounds-distances-end c).In_default).room
-
-pub slice_bounds-judge_proposal-end : goal.slice_bounds-judge_proposal-end
-slice_bounds-judge_proposal-end c = (held (goal.at.slice_bounds-judge_proposal-end c).In_default).size
+pub returns-in_err-sheet : goal.returns-in_err-sheet
+returns-in_err-sheet c = handed_on (λ r. FittingAnswer c.args.s.now r) _ _ c.from_residual.ensures (record {
+  answer = reader_refused c.args.s.now c.requires _ c.in_err-sheet.ensures;
+  fitted = tt;
+})
 
 pub slice_bounds-judge_proposal-count : goal.slice_bounds-judge_proposal-count
-slice_bounds-judge_proposal-count c = (held (goal.at.slice_bounds-judge_proposal-count c).In_default).starts
+slice_bounds-judge_proposal-count c = (held (goal.at.slice_bounds-judge_proposal-count c).In_ok-sheet).starts
 
 pub slice_bounds-judge_proposal-start : goal.slice_bounds-judge_proposal-start
-slice_bounds-judge_proposal-start c = (held (goal.at.slice_bounds-judge_proposal-start c).In_default).starts
+slice_bounds-judge_proposal-start c = (held (goal.at.slice_bounds-judge_proposal-start c).In_ok-sheet).starts
 
 pub slice_bounds-judge_proposal-end-2 : goal.slice_bounds-judge_proposal-end-2
-slice_bounds-judge_proposal-end-2 c = (held (goal.at.slice_bounds-judge_proposal-end-2 c).In_default).ends
+slice_bounds-judge_proposal-end-2 c = (held (goal.at.slice_bounds-judge_proposal-end-2 c).In_ok-sheet).ends
 
-pub slice_bounds-numerators-end : goal.slice_bounds-numerators-end
-slice_bounds-numerators-end c = (proposed (goal.at.slice_bounds-numerators-end c).In_default).room
+pub shared_ref_as_front-judge_proposal-2 : goal.shared_ref_as_front-judge_proposal-2
+shared_ref_as_front-judge_proposal-2 c = omega (arith, (proposed (goal.at.shared_ref_as_front-judge_proposal-2 c).In_ok-sheet).few)
 
-pub slice_bounds-judge_proposal-end-3 : goal.slice_bounds-judge_proposal-end-3
-slice_bounds-judge_proposal-end-3 c = (proposed (goal.at.slice_bounds-judge_proposal-end-3 c).In_default).size
+pub judge_proposal-requires : goal.judge_proposal-requires
+judge_proposal-requires c = to-parts (held (goal.at.judge_proposal-requires c).In_ok-sheet) Posted (read-posted 4 _ _ (omega arith) c.in_ok-sheet.ensures)
 
-pub judge_proposal-found-requires : goal.judge_proposal-found-requires
-judge_proposal-found-requires c = to-parts (held (goal.at.judge_proposal-found-requires c).In_default) Posted (read-posted 4 _ _ (omega arith) c.read-sheet.ensures c.in_default.is)
-
-pub returns-in-Refused-found : goal.returns-in-Refused-found
-returns-in-Refused-found c = let j = c.judge_proposal-found in
-    judge_refused c.args.s.now c.requires c.read-sheet.result c.read-sheet.ensures c.in_default.is (held (goal.at.returns-in-Refused-found c).In_default) (proposed (goal.at.returns-in-Refused-found c).In_default) j.result j.ensures c.in-Refused-found.refusal c.unfitted-in-Refused-found.result c.in-Refused-found.is c.unfitted-in-Refused-found.ensures
-
-pub slice_bounds-numerators-end-2 : goal.slice_bounds-numerators-end-2
-slice_bounds-numerators-end-2 c = (proposed (goal.at.slice_bounds-numerators-end-2 c).In_default).room
-
-pub slice_bounds-rounded-end : goal.slice_bounds-rounded-end
-slice_bounds-rounded-end c = (proposed (goal.at.slice_bounds-rounded-end c).In_default).size
+pub returns-in_err-judge_proposal : goal.returns-in_err-judge_proposal
+returns-in_err-judge_proposal c = handed_on (λ r. FittingAnswer c.args.s.now r) _ _ c.from_residual-in_err-judge_proposal.ensures (record {
+  answer = told c.args.s.now c.requires c.in_ok-sheet.sheet c.in_ok-sheet.ensures _ c.in_err-judge_proposal.ensures;
+  fitted = tt;
+})
 
 pub rounded-requires : goal.rounded-requires
-rounded-requires c = let j = c.judge_proposal-found in
-    let l = proper c.args.s.now c.requires c.read-sheet.result c.read-sheet.ensures c.in_default.is (held (goal.at.rounded-requires c).In_default) (proposed (goal.at.rounded-requires c).In_default) j.result j.ensures c.in_default-found.is in
+rounded-requires c = let p = proposed (goal.at.rounded-requires c).In_ok-sheet in
+    let l = proper c.args.s.now c.requires c.in_ok-sheet.sheet c.in_ok-sheet.ensures c.in_ok-judge_proposal.ensures in
     record {
-      edges_le_max_edges = ((proposed (goal.at.rounded-requires c).In_default).few, l.one);
-      in_range = record { room = omega (arith, (proposed (goal.at.rounded-requires c).In_default).size); near = λ v h. l.near v (omega (arith, (proposed (goal.at.rounded-requires c).In_default).size)) };
+      edges_le_max_edges = (p.few, l.one);
+      in_range = record { room = omega (arith, p.size); near = λ v h. l.near v (omega (arith, p.size)) };
     }
 
 pub returns : goal.returns
-returns c = let j = c.judge_proposal-found in
-    judge_passed c.args.s.now c.requires c.read-sheet.result c.read-sheet.ensures c.in_default.is (held (goal.at.returns c).In_default) (proposed (goal.at.returns c).In_default) j.result j.ensures c.in_default-found.is _ c.rounded.ensures refl refl refl refl refl
+returns c = judge_passed c.args.s.now c.requires c.in_ok-sheet.sheet c.in_ok-sheet.ensures c.in_ok-judge_proposal.ensures _ c.rounded.ensures refl refl refl refl

@@ -15,4 +15,4 @@ children-root-requires c = let i = inside c.args.text.now 0 39 (root-opens c.arg
     }
 
 pub returns : goal.returns
-returns c = λ r x. entered c.args.text.now c.args.n r x {find = place_of c.args.names.now head_size c.args.n} c.no_parents-parents.ensures c.edge_zeros-numerators.ensures c.children-root.ensures
+returns c = λ r x. entered c.args.text.now c.args.n r x {find = place_of c.args.names.now head_size c.args.n} c.filled-parents.ensures.throughout c.filled-numerators.ensures.throughout c.children-root.ensures

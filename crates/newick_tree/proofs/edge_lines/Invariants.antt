@@ -9,6 +9,3 @@ use Rattle.newick_tree.proofs.edge_lines.Given as goal
 
 abbrev pub invariant-loop-v : goal.invariant-loop-v
 invariant-loop-v l = (l.v ≤ l.k) × (length l.text ≡ length l.initial.text) × Wrote l.initial.text l.text l.at (edge_lines l.v (row_of l.parents l.thousandths)) l.next
-
-abbrev pub decreases-loop-v : goal.decreases-loop-v
-decreases-loop-v l = l.k - l.v

@@ -6,6 +6,3 @@ use Rattle.newick_words.proofs.digits_at.Given as goal
 
 abbrev pub invariant-loop-end : goal.invariant-loop-end
 invariant-loop-end l = Gathered l.text l.at l.end l.number
-
-abbrev pub decreases-loop-end : goal.decreases-loop-end
-decreases-loop-end l = length l.text - l.end

@@ -3,9 +3,6 @@ use native.Mathlib.Omega.{arith}
 use Rattle.newick_write.proofs.Ready.{allowed, words, room, text_as}
 use Rattle.newick_write.proofs.put_named.Goals as goal
 
-pub name_starts-starts-requires : goal.name_starts-starts-requires
-name_starts-starts-requires c = ((allowed c.args.s.now c.args.from c.args.n c.args.parents.now c.args.lengths.now c.args.text.now c.requires).few, c.requires.within)
-
 pub put_tree-requires : goal.put_tree-requires
 put_tree-requires c = let a = c.args in
     let starts = c.name_starts-starts in

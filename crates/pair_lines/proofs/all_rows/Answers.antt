@@ -17,13 +17,13 @@ use Rattle.pair_lines.proofs.all_rows.Goals as goal
 pub fill_paths-requires : goal.fill_paths-requires
 fill_paths-requires c = record {
   lengthened = c.requires.lengthened;
-  between_len = ap length c.no_paths-exactly.ensures ∙ length-table spots _;
+  between_len = ap length c.filled-exactly.ensures.throughout ∙ length-table spots _;
 }
 
 pub fill_paths-requires-2 : goal.fill_paths-requires-2
 fill_paths-requires-2 c = record {
   lengthened = c.requires.lengthened_2;
-  between_len = ap length c.no_paths-nearly.ensures ∙ length-table spots _;
+  between_len = ap length c.filled-nearly.ensures.throughout ∙ length-table spots _;
 }
 
 pub loop-i-init : goal.loop-i-init
@@ -37,9 +37,6 @@ row_lines-next-requires c = let a = c.args in let l = c.loop-i in let more = c.l
   by_index = c.requires.by_index;
   i_in_bounds = pieces_room _ _ _ _ l.invariant (widest_pair * row_start a.n l.i) (rows_long a.names.now a.starts.now a.n c.requires.by_index a.edges a.distances.now (parent_of a.parents.now) a.d (entry_of a.numerators.now) (entry_of a.rounded.now) l.i l.invariant.few) (widest_pair * (a.n - (l.i + 1))) (omega (arith, c.requires.n_in_bounds, rows-within a.n l.i more));
 }
-
-pub overflow_add-i : goal.overflow_add-i
-overflow_add-i c = let a = c.args in let l = c.loop-i in let more = c.loop-i-test.true in record { fits = omega (arith, more, c.requires.lengthened.allowed.few) }
 
 pub loop-i-preserved : goal.loop-i-preserved
 loop-i-preserved c = let a = c.args in let l = c.loop-i in let more = c.loop-i-test.true in pieces-turn _ _ _ _ l.invariant (widest_pair * row_start a.n l.i) (rows_long a.names.now a.starts.now a.n c.requires.by_index a.edges a.distances.now (parent_of a.parents.now) a.d (entry_of a.numerators.now) (entry_of a.rounded.now) l.i l.invariant.few) _ more (omega (arith, c.requires.n_in_bounds, rows_fit a.n l.i l.invariant.few)) refl c.row_lines-next.ensures

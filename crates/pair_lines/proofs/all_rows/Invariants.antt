@@ -9,6 +9,3 @@ use Rattle.pair_lines.proofs.all_rows.Given as goal
 
 abbrev pub invariant-loop-i : goal.invariant-loop-i
 invariant-loop-i l = PiecesAt l.initial.text l.at l.n (row_by (word_at l.names l.starts) l.n l.edges l.distances (parent_of l.parents) l.d (entry_of l.numerators) (entry_of l.rounded)) l.text l.next l.i
-
-abbrev pub decreases-loop-i : goal.decreases-loop-i
-decreases-loop-i l = l.n - l.i

@@ -9,6 +9,3 @@ use Rattle.pair_lines.proofs.row_lines.Given as goal
 
 abbrev pub invariant-loop-k : goal.invariant-loop-k
 invariant-loop-k l = PiecesAt l.initial.text l.at l.later (λ m. line_by (word_at l.names l.starts) l.edges l.distances (parent_of l.parents) l.d (entry_of l.numerators) (entry_of l.rounded) l.i (l.i + 1 + m)) l.text l.next l.k
-
-abbrev pub decreases-loop-k : goal.decreases-loop-k
-decreases-loop-k l = l.later - l.k

@@ -7,6 +7,3 @@ use Rattle.path_sums.proofs.gather.Given as goal
 
 abbrev pub invariant-loop-v : goal.invariant-loop-v
 invariant-loop-v l = GatherAt l.n l.edges (parent_of l.parents) (entry_of l.x) l.v l.sizes l.ways
-
-abbrev pub decreases-loop-v : goal.decreases-loop-v
-decreases-loop-v l = l.edges - l.v

@@ -7,6 +7,3 @@ use Rattle.path_sums.proofs.spread.Given as goal
 
 abbrev pub invariant-loop-w : goal.invariant-loop-w
 invariant-loop-w l = SpreadAt l.n l.edges (parent_of l.parents) (entry_of l.x) l.w l.sizes l.ways
-
-abbrev pub decreases-loop-w : goal.decreases-loop-w
-decreases-loop-w l = l.w

@@ -9,6 +9,3 @@ use Rattle.path_sums.proofs.strains_alone.Given as goal
 
 abbrev pub invariant-loop-i : goal.invariant-loop-i
 invariant-loop-i l = (l.i ≤ l.n) × (length l.sizes ≡ max_vertices) × Filled (pos 0) (λ _. pos 1) (λ _. pos 0) l.i l.sizes
-
-abbrev pub decreases-loop-i : goal.decreases-loop-i
-decreases-loop-i l = l.n - l.i

@@ -24,21 +24,21 @@ returns-then-not-has_names c = let h = c.has_names.ensures in let which = c.if-n
   paths_close = paths-close c.args.s.now;
 }
 
-pub returns-in-Refused : goal.returns-in-Refused
-returns-in-Refused c = let h = c.has_names.ensures in let which = c.if-not-has_names.false in let n = c.labelled-named in record {
-  shown_on = names-refused c.args.s.now (sym h ∙ which) n.result n.ensures c.in-Refused.refusal _ c.in-Refused.is c.number.ensures (omega (arith, c.if-text-lt-PAGE.false)) c.refused_line.ensures;
+pub returns-in-Err : goal.returns-in-Err
+returns-in-Err c = let h = c.has_names.ensures in let which = c.if-not-has_names.false in record {
+  shown_on = names-refused c.args.s.now (sym h ∙ which) c.in-Err.refusal _ c.in-Err.ensures c.from.ensures (omega (arith, c.if-text-lt-PAGE.false)) c.refused_line.ensures;
   paths_close = paths-close c.args.s.now;
 }
 
-pub print_pairs-requires-2 : goal.print_pairs-requires-2
-print_pairs-requires-2 c = let h = c.has_names.ensures in let which = c.if-not-has_names.false in let n = c.labelled-named in record {
+pub print_pairs-requires-in-Ok : goal.print_pairs-requires-in-Ok
+print_pairs-requires-in-Ok c = let h = c.has_names.ensures in let which = c.if-not-has_names.false in record {
   lt_count = (omega arith, omega arith);
-  names_from = (λ _. names-lent c.args.s.now (sym h ∙ which) n.result n.ensures c.in_default.is);
+  names_from = (λ _. names-lent c.args.s.now (sym h ∙ which) c.in-Ok.ensures);
   pairs_page_in_bounds = omega (arith, c.if-text-lt-PAGE.false);
 }
 
-pub returns : goal.returns
-returns c = let h = c.has_names.ensures in let which = c.if-not-has_names.false in let n = c.labelled-named in record {
-  shown_on = shown c.args.s.now c.args.text.now _ _ _ (omega (arith, c.if-text-lt-PAGE.false)) (named-text c.args.s.now (sym h ∙ which) n.result n.ensures c.in_default.is) c.print_pairs-2.ensures;
+pub returns-in-Ok : goal.returns-in-Ok
+returns-in-Ok c = let h = c.has_names.ensures in let which = c.if-not-has_names.false in record {
+  shown_on = shown c.args.s.now c.args.text.now _ _ _ (omega (arith, c.if-text-lt-PAGE.false)) (named-text c.args.s.now (sym h ∙ which) c.in-Ok.ensures) c.print_pairs-in-Ok.ensures;
   paths_close = paths-close c.args.s.now;
 }

@@ -15,7 +15,7 @@ pub overflow_mul-bytes : goal.overflow_mul-bytes
 overflow_mul-bytes c = record { fits = omega (arith, c.strains_for-n.ensures, strains-few c.args.text.now) }
 
 pub slice_bounds-distances-end : goal.slice_bounds-distances-end
-slice_bounds-distances-end c = omega (arith, c.pair_count-pairs.ensures, pairs-few c.strains_for-n.result (omega (arith, c.strains_for-n.ensures, strains-few c.args.text.now)), ap length c.no_distances-distances.ensures ∙ length-table max_pairs _)
+slice_bounds-distances-end c = omega (arith, c.pair_count-pairs.ensures, pairs-few c.strains_for-n.result (omega (arith, c.strains_for-n.ensures, strains-few c.args.text.now)), ap length c.filled-distances.ensures.throughout ∙ length-table max_pairs _)
 
 pub slice_bounds-names-end : goal.slice_bounds-names-end
-slice_bounds-names-end c = omega (arith, c.strains_for-n.ensures, strains-few c.args.text.now, ap length c.blank_names-names.ensures ∙ length-table _ _)
+slice_bounds-names-end c = omega (arith, c.strains_for-n.ensures, strains-few c.args.text.now, ap length c.filled-names.ensures.throughout ∙ length-table _ _)

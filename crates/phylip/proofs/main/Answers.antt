@@ -1,4 +1,4 @@
--- What is written ends within the page.
+-- What is written ends within the filled.
 use Rattle.writing.proofs.Writing.{wrote-within}
 use Rattle.phylip.proofs.main.Goals as goal
 

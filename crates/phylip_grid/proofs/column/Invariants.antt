@@ -7,6 +7,3 @@ use Rattle.phylip_grid.proofs.column.Given as goal
 
 abbrev pub invariant-loop-i : goal.invariant-loop-i
 invariant-loop-i l = (l.i ≤ l.j) × (length l.distances ≡ length l.initial.distances) × Filling l.grid (l.first + l.i) l.distances
-
-abbrev pub decreases-loop-i : goal.decreases-loop-i
-decreases-loop-i l = l.j - l.i

@@ -8,6 +8,3 @@ use Rattle.phylip_grid.proofs.halves_off.Given as goal
 
 abbrev pub invariant-loop-i : goal.invariant-loop-i
 invariant-loop-i l = (l.i ≤ l.n) × ((k : ℕ) → k < l.i → some l.n (cell_off l.grid k) ≡ false)
-
-abbrev pub decreases-loop-i : goal.decreases-loop-i
-decreases-loop-i l = l.n - l.i

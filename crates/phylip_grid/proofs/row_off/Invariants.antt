@@ -7,6 +7,3 @@ use Rattle.phylip_grid.proofs.row_off.Given as goal
 
 abbrev pub invariant-loop-j : goal.invariant-loop-j
 invariant-loop-j l = (l.j ≤ l.n) × ((k : ℕ) → k < l.j → cell_off l.grid l.i k ≡ false)
-
-abbrev pub decreases-loop-j : goal.decreases-loop-j
-decreases-loop-j l = l.n - l.j

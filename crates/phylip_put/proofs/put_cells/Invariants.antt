@@ -6,6 +6,3 @@ use Rattle.phylip_put.proofs.put_cells.Given as goal
 
 abbrev pub invariant-loop-j : goal.invariant-loop-j
 invariant-loop-j l = PiecesAt l.initial.text l.at l.n (λ k. cell_written (value_at l.distances l.i k)) l.text l.next l.j
-
-abbrev pub decreases-loop-j : goal.decreases-loop-j
-decreases-loop-j l = l.n - l.j

@@ -6,6 +6,3 @@ use Rattle.phylip_put.proofs.put_rows.Given as goal
 
 abbrev pub invariant-loop-i : goal.invariant-loop-i
 invariant-loop-i l = PiecesAt l.initial.text l.at l.n (row_written l.n l.distances l.names) l.text l.next l.i
-
-abbrev pub decreases-loop-i : goal.decreases-loop-i
-decreases-loop-i l = l.n - l.i

@@ -6,19 +6,16 @@ use Rattle.phylip_rows.proofs.Passing.{row_unnamed, row-no-cells, row-no-end, ro
 use Rattle.phylip_rows.proofs.row.Goals as goal
 
 pub returns-then-name : goal.returns-then-name
-returns-then-name c = row_unnamed _ _ _ _ _ _ c.name.ensures c.bad_row.result c.bad_row.ensures c.if-name.true
+returns-then-name c = row_unnamed _ _ _ _ _ _ c.name.ensures c.if-name.true
 
-pub cells-read-requires : goal.cells-read-requires
-cells-read-requires c = let w = name-within _ _ (sym c.name.ensures.bad-is ∙ c.if-name.false) in (w, omega arith, omega arith)
+pub cells-requires : goal.cells-requires
+cells-requires c = let w = name-within _ _ (sym c.name.ensures.bad-is ∙ c.if-name.false) in (w, omega arith, omega arith)
 
-pub returns-then-read : goal.returns-then-read
-returns-then-read c = row-no-cells _ _ _ _ _ _ c.name.ensures c.cells-read.ensures c.bad_row-then-read.result c.bad_row-then-read.ensures c.if-read.true
+pub returns-in_err-read : goal.returns-in_err-read
+returns-in_err-read c = rw c.from_residual.ensures (row-no-cells _ _ _ _ _ _ c.name.ensures c.in_err-read.ensures)
 
-pub line_end-ended-requires : goal.line_end-ended-requires
-line_end-ended-requires c = (c.cells-read.ensures.cells c.if-read.false).within
-
-pub returns-then-ended : goal.returns-then-ended
-returns-then-ended c = row-no-end _ _ _ _ _ _ c.name.ensures c.cells-read.ensures c.if-read.false c.line_end-ended.ensures c.bad_row-then-ended.result c.bad_row-then-ended.ensures c.if-ended.true
+pub returns-in_err-end : goal.returns-in_err-end
+returns-in_err-end c = rw c.from_residual-in_err-end.ensures (row-no-end _ _ _ _ _ _ c.name.ensures c.in_ok-read.ensures c.in_err-end.ensures)
 
 pub returns : goal.returns
-returns c = row_read _ _ _ _ _ _ c.name.ensures c.cells-read.ensures c.if-read.false c.line_end-ended.ensures c.if-name.false c.if-ended.false
+returns c = row_read _ _ _ _ _ _ c.name.ensures c.in_ok-read.ensures c.in_ok-end.ensures c.if-name.false

@@ -1,16 +1,26 @@
 -- The first line first; then the rows are read, and three tests follow, on what was read.
-use native.Mathlib.Omega.{arith}
-use Rattle.phylip_survey.proofs.Surveys.{survey_refused, opened-by, survey_read}
+use mathlib.Core.Path.{sym, ◌∙◌}
+use Rattle.verdict.proofs.Answers.{handed_on, test-pass}
+use Rattle.phylip_survey.specs.Survey.{Surveyed}
+use Rattle.phylip_survey.proofs.Surveys.{halves_told, held_read}
 use Rattle.phylip_survey.proofs.survey_text.Goals as goal
 
-pub returns-in-Refused : goal.returns-in-Refused
-returns-in-Refused c = survey_refused _ _ _ c.read_head-head.ensures c.in-Refused.refusal c.in-Refused.is
-
-pub rows-rows-requires : goal.rows-rows-requires
-rows-rows-requires c = let o = opened-by _ c.args.grid.now c.args.names.now c.read_head-head.ensures c.in_default.is in (o.within, o.few, omega (arith, o.few, c.requires), omega (arith, o.few, c.requires))
-
-pub halves_off-requires : goal.halves_off-requires
-halves_off-requires c = let o = opened-by _ c.args.grid.now c.args.names.now c.read_head-head.ensures c.in_default.is in (o.few, omega (arith, c.rows-rows.ensures.grid_size))
+pub returns-in_err-test-2 : goal.returns-in_err-test-2
+returns-in_err-test-2 c = let w = rw c.in_ok-out.ensures.ok_part at c.rows.ensures in
+    handed_on (λ r. Surveyed c.args.text.now c.args.grid.now c.rows.new.grid c.args.names.now c.rows.new.names r) _ _ c.from_residual-in_err-test-2.ensures
+    (record {
+      answer = c.in_err-test-2.ensures ∙ halves_told _ c.in_ok-head.ensures w (test-pass 18 _ (sym c.in_ok-test.ensures)) _ c.halves_off.ensures;
+      grid_size = w.grid_size;
+      names-size = w.names-size;
+      few = tt;
+      held = tt;
+    })
 
 pub returns : goal.returns
-returns c = survey_read _ _ _ c.read_head-head.ensures c.in_default.is c.rows-rows.ensures c.halves_off.result c.test-form.result c.test-decimals.result c.test-halves.result c.or_else.result c.or_else-2.result c.halves_off.ensures c.test-form.ensures c.test-decimals.ensures c.test-halves.ensures c.or_else.ensures c.or_else-2.ensures
+returns c = let w = rw c.in_ok-out.ensures.ok_part at c.rows.ensures in record {
+  answer = c.in_ok-test-2.ensures ∙ halves_told _ c.in_ok-head.ensures w (test-pass 18 _ (sym c.in_ok-test.ensures)) _ c.halves_off.ensures;
+  grid_size = w.grid_size;
+  names-size = w.names-size;
+  few = c.in_ok-head.ensures.opened.few;
+  held = held_read _ c.in_ok-head.ensures w;
+}

@@ -23,7 +23,7 @@ ends : (c : Else-count-eq2)
 ends c = lengths-end c.args.count (bytes c) c.requires.le_count.2 (omega arith) _ c.requires.le_count.3
 
 pub returns-then-count-eq2 : goal.returns-then-count-eq2
-returns-then-count-eq2 c = without-lengths _ _ _ _ c.if-count-eq2.true refl refl refl c.requires.numerators_value
+returns-then-count-eq2 c = without-lengths _ _ _ c.if-count-eq2.true c.requires.numerators_value
 
 pub overflow_add-body : goal.overflow_add-body
 overflow_add-body c = record { fits = omega (arith, ends c) }
@@ -35,7 +35,7 @@ pub u16_at-requires : goal.u16_at-requires
 u16_at-requires c = omega (arith, ends c)
 
 pub returns-then-u16_at-edges : goal.returns-then-u16_at-edges
-returns-then-u16_at-edges c = other-count _ _ _ _ _ _ c.requires.le_count.3 c.u16_at.ensures c.requires.edges_value.0 _ (three (goal.at.returns-then-u16_at-edges c).Else-count-eq2) c.if-u16_at-edges.true refl
+returns-then-u16_at-edges c = other-count _ _ _ _ _ c.requires.le_count.3 c.u16_at.ensures c.requires.edges_value.0 _ (three (goal.at.returns-then-u16_at-edges c).Else-count-eq2) c.if-u16_at-edges.true
 
 pub overflow_add-body-3 : goal.overflow_add-body-3
 overflow_add-body-3 c = record { fits = omega (arith, ends (goal.at.overflow_add-body-3 c).Else-count-eq2) }
@@ -51,4 +51,4 @@ pub u32_at-requires : goal.u32_at-requires
 u32_at-requires c = omega (arith, ends (goal.at.u32_at-requires c).Else-count-eq2)
 
 pub returns : goal.returns
-returns c = with_lengths _ _ _ _ _ _ c.requires.le_count.3 c.u16_at.ensures c.requires.edges_value.0 _ (three (goal.at.returns c).Else-count-eq2) c.if-u16_at-edges.false refl c.u32_at.ensures refl c.numerators_into.ensures
+returns c = with_lengths _ _ _ _ _ c.requires.le_count.3 c.u16_at.ensures c.requires.edges_value.0 _ (three (goal.at.returns c).Else-count-eq2) c.if-u16_at-edges.false _ c.u32_at.ensures refl c.numerators_into.ensures

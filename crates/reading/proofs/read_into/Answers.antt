@@ -4,16 +4,18 @@ use mathlib.Core.List.{List}
 use Prim.Native.Nat.{ℕ}
 use native.Mathlib.Omega.{arith}
 use lib.ListN.{get_or}
-use Rattle.verdict.specs.Answer.{pass, answer_of}
+use Rattle.verdict.specs.Answer.{pass}
+use Rattle.verdict.proofs.Answers.{handed_on}
 use Rattle.records.specs.Form.{form_tests}
 use Rattle.records.specs.Laid.{max_starts}
 use Rattle.records.proofs.Decoding.{padded-before}
+use Rattle.reading.specs.Reads.{OutlineAnswer}
 use Rattle.reading.proofs.Answered.{form-refused}
 use Rattle.reading.proofs.read_into.Goals as goal
 
 pub held-requires : goal.held-requires
-held-requires c = let z : form_tests c.args.count c.args.s.now ≡ pass = sym c.records-laid.ensures.answer ∙ ap answer_of c.in-Accepted.is in
-    let at = c.records-laid.ensures.starts z in record {
+held-requires c = let z : form_tests c.args.count c.args.s.now ≡ pass = sym c.in_ok-laid.ensures.answer in
+    let at = c.in_ok-laid.ensures.starts in record {
       le_count = (
         c.requires.le_count.0,
         c.requires.le_count.1,
@@ -25,5 +27,7 @@ held-requires c = let z : form_tests c.args.count c.args.s.now ≡ pass = sym c.
       numerators_value = c.requires.numerators_value;
     }
 
-pub returns-in-Refused : goal.returns-in-Refused
-returns-in-Refused c = form-refused _ _ _ _ _ _ _ c.records-laid.ensures.answer c.in-Refused.is c.unread.ensures
+pub returns-in_err-laid : goal.returns-in_err-laid
+returns-in_err-laid c = let s = c.args.s.now in
+    handed_on (OutlineAnswer c.args.count s c.args.distances.now c.args.numerators.now) _ _ c.from_residual.ensures
+    (record { answer = form-refused c.args.count s _ c.in_err-laid.ensures.answer; held = tt })

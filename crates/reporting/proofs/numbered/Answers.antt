@@ -43,20 +43,17 @@ returns c = let summed = c.total-length in
     let p = c.requires.stands in
     let e = c.rounded-thousandths.ensures in
     let g = c.figures-figures in record {
-      verdict_value = refl;
-      reported = record {
-        strains = refl;
-        edges = refl;
-        denominator = refl;
-        total = to_z-of_z {w = w64} {z = summed.result} (fits_abs _ (omega (arith, ap nat_abs (summed.ensures ∙ total-is _ _ _ _ _ _ p), total-near _ _ _ _ _ _ p)))
-            ∙ summed.ensures ∙ total-is _ _ _ _ _ _ p;
-        f = to_z-of_z {w = w64} {z = g.result.f} (fits-of _ _ g.ensures.f_value (f-fits _ _ _ _ _ _ p)) ∙ g.ensures.f_value;
-        r = to_z-of_z {w = w64} {z = g.result.r} (fits-of _ _ g.ensures.r_value (r-fits _ _ _ _ _ _ p _ e)) ∙ g.ensures.r_value ∙ r-same _ _ _ _ _ _ p _ e;
-        h = to_z-of_z {w = w64} {z = g.result.h} (fits-of _ _ g.ensures.h_value (h_fits _ _ _ _ _ _ p)) ∙ g.ensures.h_value;
-        mean = c.mean_over.ensures;
-        rounded = rounded-is _ _ _ _ _ _ p _ e _ c.copy_out.ensures;
-        stands = p;
-        least = least _ _ _ _ _ _ p.fitted;
-        near = total-near _ _ _ _ _ _ p;
-      };
+      strains = refl;
+      edges = refl;
+      denominator = refl;
+      total = to_z-of_z {w = w64} {z = summed.result} (fits_abs _ (omega (arith, ap nat_abs (summed.ensures ∙ total-is _ _ _ _ _ _ p), total-near _ _ _ _ _ _ p)))
+          ∙ summed.ensures ∙ total-is _ _ _ _ _ _ p;
+      f = to_z-of_z {w = w64} {z = g.result.f} (fits-of _ _ g.ensures.f_value (f-fits _ _ _ _ _ _ p)) ∙ g.ensures.f_value;
+      r = to_z-of_z {w = w64} {z = g.result.r} (fits-of _ _ g.ensures.r_value (r-fits _ _ _ _ _ _ p _ e)) ∙ g.ensures.r_value ∙ r-same _ _ _ _ _ _ p _ e;
+      h = to_z-of_z {w = w64} {z = g.result.h} (fits-of _ _ g.ensures.h_value (h_fits _ _ _ _ _ _ p)) ∙ g.ensures.h_value;
+      mean = c.mean_over.ensures;
+      rounded = rounded-is _ _ _ _ _ _ p _ e _ c.copy_out.ensures;
+      stands = p;
+      least = least _ _ _ _ _ _ p.fitted;
+      near = total-near _ _ _ _ _ _ p;
     }

@@ -1,15 +1,17 @@
 -- Each turn that goes on has one sheet more, and there are fewer than 2^64.
-use Prim.Native.Nat.{◌-◌}
+use mathlib.Core.Path.{◌∙◌, ap}
+use Prim.Native.Nat.{ℕ, ◌+◌}
 use native.Mathlib.Omega.{arith}
-use borrow.Author.Tests.{not-false}
-use Rattle.shortest_run.specs.Kept.{Held}
 use Rattle.shortest.proofs.main.Goals as goal
 
-pub loop-run-init : goal.loop-run-init
-loop-run-init c = record { state = _; keeps = c.start-run.ensures }
+pub loop-sheet-init : goal.loop-sheet-init
+loop-sheet-init c = (record { state = _; keeps = c.start-run.ensures }, c.start-run.ensures.count)
 
-pub loop-run-smaller : goal.loop-run-smaller
-loop-run-smaller c = omega (arith, c.next_sheet-next.ensures.more (not-false _ c.if-not-next.false))
+pub next_sheet-requires-clause-held : goal.next_sheet-requires-clause-held
+next_sheet-requires-clause-held c = c.loop-sheet.invariant.0
 
-pub loop-run-preserved : goal.loop-run-preserved
-loop-run-preserved c = c.next_sheet-next.ensures.held
+pub next_sheet-requires-clause-count_bound : goal.next_sheet-requires-clause-count_bound
+next_sheet-requires-clause-count_bound c = omega (arith, c.loop-sheet.invariant.1, c.loop-sheet-test.true)
+
+pub loop-sheet-preserved : goal.loop-sheet-preserved
+loop-sheet-preserved c = let next = c.in-Some.ensures in (next.held, omega (arith, next.more, c.loop-sheet.invariant.1))

@@ -1,5 +1,5 @@
 -- The loop fills the table from the front with the bytes of the sheet.
-use Prim.Native.Nat.{ℕ, ◌-◌}
+use Prim.Native.Nat.{ℕ}
 use lib.ListN.{length, get_or}
 use Rattle.records.specs.Form.{max_sheet}
 use Rattle.records.proofs.Decoding.{Decoding}
@@ -7,6 +7,3 @@ use Rattle.shortest_run.proofs.held.Given as goal
 
 abbrev pub invariant-loop-k : goal.invariant-loop-k
 invariant-loop-k l = Decoding 0 max_sheet (length l.sheet) (λ (i : ℕ). get_or l.sheet i 0) l.k l.bytes
-
-abbrev pub decreases-loop-k : goal.decreases-loop-k
-decreases-loop-k l = length l.sheet - l.k

@@ -37,12 +37,6 @@ bounds-own-i-in-loop-i c = omega (arith, c.loop-i-test.true, c.requires.j_lt_max
 pub overflow_add-whole : goal.overflow_add-whole
 overflow_add-whole c = whole-fits c.requires.by_index c.requires.j_lt_max_strains.0 c.requires.own_len.1 c.loop-i.invariant c.requires.j_lt_max_strains.1 c.loop-i-test.true
 
-pub overflow_add-i : goal.overflow_add-i
-overflow_add-i c = omega (arith, c.loop-i-test.true, c.requires.j_lt_max_strains)
-
-pub loop-i-smaller : goal.loop-i-smaller
-loop-i-smaller c = omega (arith, c.loop-i-test.true)
-
 pub loop-i-preserved : goal.loop-i-preserved
 loop-i-preserved c = row-turn c.requires.by_index c.requires.j_lt_max_strains.0 c.requires.own_len.1 c.loop-i.invariant c.requires.j_lt_max_strains.1 c.loop-i-test.true
 

@@ -74,12 +74,6 @@ offset_bounds-sums-m-then-m-edges c = omega (arith, c.if-m-edges.true, few-edges
 pub bounds-sums-m-then-m-edges : goal.bounds-sums-m-then-m-edges
 bounds-sums-m-then-m-edges c = omega (arith, c.if-m-edges.true, few-edges c.requires.splittable)
 
-pub overflow_add-v : goal.overflow_add-v
-overflow_add-v c = omega (arith, c.loop-v-test.true, few-edges c.requires.splittable)
-
-pub loop-v-smaller : goal.loop-v-smaller
-loop-v-smaller c = omega (arith, c.loop-v-test.true)
-
 pub loop-v-preserved : goal.loop-v-preserved
 loop-v-preserved c =
     let turn = c.loop-v-test.true in

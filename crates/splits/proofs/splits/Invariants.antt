@@ -5,6 +5,3 @@ use Rattle.splits.proofs.splits.Given as goal
 
 abbrev pub invariant-loop-v : goal.invariant-loop-v
 invariant-loop-v l = Passing l.n l.edges l.distances l.parents l.v l.come l.sums
-
-abbrev pub decreases-loop-v : goal.decreases-loop-v
-decreases-loop-v l = l.edges - l.v

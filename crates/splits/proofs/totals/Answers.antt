@@ -20,12 +20,6 @@ add_row-requires c = let turn = c.loop-j-test.true in
 pub overflow_add-first : goal.overflow_add-first
 overflow_add-first c = omega (arith, c.loop-j.invariant.1, count_room c.args.n c.loop-j.j c.loop-j-test.true, pairs-few c.args.n c.requires.n_le_max_strains.0)
 
-pub overflow_add-j : goal.overflow_add-j
-overflow_add-j c = omega (arith, c.loop-j-test.true, c.requires.n_le_max_strains.0)
-
-pub loop-j-smaller : goal.loop-j-smaller
-loop-j-smaller c = omega (arith, c.loop-j-test.true)
-
 pub loop-j-preserved : goal.loop-j-preserved
 loop-j-preserved c = let j = c.loop-j.j in (
   omega (arith, c.loop-j-test.true),

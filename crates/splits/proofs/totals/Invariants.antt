@@ -6,6 +6,3 @@ use Rattle.splits.proofs.totals.Given as goal
 
 abbrev pub invariant-loop-j : goal.invariant-loop-j
 invariant-loop-j l = (l.j ≤ l.n) × (l.first ≡ pair_count l.j) × Rows l.j l.distances l.own
-
-abbrev pub decreases-loop-j : goal.decreases-loop-j
-decreases-loop-j l = l.n - l.j

@@ -1,6 +1,6 @@
 -- The buffer is filled from the front.
 use mathlib.Core.Path.{◌≡◌}
-use Prim.Native.Nat.{◌≤◌, ◌-◌}
+use Prim.Native.Nat.{◌≤◌}
 use lib.IntN.{pos}
 use lib.ListN.{length}
 use Rattle.exact.proofs.Fill.{Filled}
@@ -9,6 +9,3 @@ use Rattle.tables.proofs.copy_out.Given as goal
 
 abbrev pub invariant-loop-v : goal.invariant-loop-v
 invariant-loop-v l = (l.v ≤ l.edges) × (length l.to ≡ l.edges) × Filled (pos 0) (entry_of l.from) (entry_of l.initial.to) l.v l.to
-
-abbrev pub decreases-loop-v : goal.decreases-loop-v
-decreases-loop-v l = l.edges - l.v

@@ -16,19 +16,19 @@ complete c = sym c.some_missing.ensures ∙ c.if-some_missing.false
 
 pub edge_sums-requires : goal.edge_sums-requires
 edge_sums-requires c = record {
-  ready = none-ready c.edge_zeros-none.ensures c.requires.posted c.requires.standing;
-  in_range = none-range c.edge_zeros-none.ensures (few-edges c.requires.posted.tree);
+  ready = none-ready c.filled-none.ensures.throughout c.requires.posted c.requires.standing;
+  in_range = none-range c.filled-none.ensures.throughout (few-edges c.requires.posted.tree);
 }
 
 pub returns-then-some_missing : goal.returns-then-some_missing
 returns-then-some_missing c = let r = c.edge_sums.ensures in
-    record { size = r.size; entries = λ v h. r.entries v h ∙ none-sum c.edge_zeros-none.ensures c.args.n c.args.distances.now c.args.parents.now v; rest = r.rest }
+    record { size = r.size; entries = λ v h. r.entries v h ∙ none-sum c.filled-none.ensures.throughout c.args.n c.args.distances.now c.args.parents.now v; rest = r.rest }
 
 pub splits-requires : goal.splits-requires
 splits-requires c = let p = c.requires.posted in
     record {
       splittable = table-splits c.args.distances.now c.args.parents.now (complete (goal.at.splits-requires c).Else-some_missing) (omega arith) p.tree (omega (arith, p.matrix.whole)) (known-near p.matrix);
-      sums_value = c.edge_zeros-sums.ensures;
+      sums_value = c.filled-sums.ensures.throughout;
     }
 
 pub returns : goal.returns

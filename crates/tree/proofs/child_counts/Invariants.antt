@@ -6,8 +6,5 @@ use Rattle.tree_theory.specs.Chain.{parent_of}
 use Rattle.tree.proofs.Tally.{Tallied}
 use Rattle.tree.proofs.child_counts.Given as goal
 
-abbrev pub invariant-loop-v : goal.invariant-loop-v
-invariant-loop-v l = (l.v ≤ length l.parents) × (length l.counts ≡ 126) × Tallied (parent_of l.parents) l.v l.counts
-
-abbrev pub decreases-loop-v : goal.decreases-loop-v
-decreases-loop-v l = length l.parents - l.v
+abbrev pub invariant-loop-parent : goal.invariant-loop-parent
+invariant-loop-parent l = (l.parent-index ≤ length l.parents) × (length l.counts ≡ 126) × Tallied (parent_of l.parents) l.parent-index l.counts

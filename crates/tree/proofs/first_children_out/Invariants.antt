@@ -9,6 +9,3 @@ use Rattle.tree.proofs.first_children_out.Given as goal
 
 abbrev pub invariant-loop-w : goal.invariant-loop-w
 invariant-loop-w l = (l.n ≤ l.w) × (l.w ≤ length l.parents) × ((k : ℕ) → k < l.w → children_out l.spare l.n (length l.parents) (parent_of l.parents) k ≡ false)
-
-abbrev pub decreases-loop-w : goal.decreases-loop-w
-decreases-loop-w l = l.edges - l.w

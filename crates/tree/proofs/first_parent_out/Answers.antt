@@ -12,9 +12,6 @@ use Rattle.tree.proofs.first_parent_out.Goals as goal
 pub loop-v-init : goal.loop-v-init
 loop-v-init c = (search rules, below_none _)
 
-pub overflow_cast-p : goal.overflow_cast-p
-overflow_cast-p c = omega (arith, c.shared_slice_known-1.given c.loop-v.v)
-
 pub returns-then-p-v : goal.returns-then-p-v
 returns-then-p-v c = let ps = c.args.parents.now in
     let n = c.args.n in

@@ -9,6 +9,3 @@ use Rattle.tree.proofs.first_parent_out.Given as goal
 
 abbrev pub invariant-loop-v : goal.invariant-loop-v
 invariant-loop-v l = (l.v ≤ length l.parents) × ((k : ℕ) → k < l.v → parent_out l.n (length l.parents) (parent_of l.parents) k ≡ false)
-
-abbrev pub decreases-loop-v : goal.decreases-loop-v
-decreases-loop-v l = l.edges - l.v

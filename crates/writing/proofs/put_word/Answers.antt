@@ -29,8 +29,9 @@ module _ (b w : List ℕ) (at : ℕ) (room : at + length w ≤ length b) where
         (wrote_then (room-left k c p) p.wrote (wrote-byte c (at + k) (get_or w k 0) (omega (arith, same k c p))));
   }
 
-  finish : (k : ℕ) (c : List ℕ) → length w ≤ k → Spelt b w at k c → Wrote b c at w (at + k)
-  finish k c h p = rw take_all at p.wrote
+  finish : (k : ℕ) (c : List ℕ) → length w ≤ k → Spelt b w at k c → Wrote b c at w (at + length w)
+  finish k c h p = let all : k ≡ length w = omega (arith, p.few) in
+      rw all at (rw take_all at p.wrote)
 
 pub loop-k-init : goal.loop-k-init
 loop-k-init c = start c.args.text.now c.args.word.now c.args.at c.requires

@@ -12,6 +12,3 @@ pub record Spelt (b w : List ℕ) (at k : ℕ) (c : List ℕ) : Type 0 where
 
 abbrev pub invariant-loop-k : goal.invariant-loop-k
 invariant-loop-k l = Spelt l.initial.text l.word l.at l.k l.text
-
-abbrev pub decreases-loop-k : goal.decreases-loop-k
-decreases-loop-k l = length l.word - l.k

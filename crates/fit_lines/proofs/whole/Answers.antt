@@ -1,7 +1,0 @@
--- A number of 32 bits is the same with a sign.
-use native.Mathlib.Omega.{arith}
-use Rattle.exact.proofs.Sign.{back-pos}
-use Rattle.fit_lines.proofs.whole.Goals as goal
-
-pub returns : goal.returns
-returns c = back-pos c.args.x (omega arith)

@@ -1,8 +1,0 @@
--- The array is written out.
-use mathlib.Core.Path.{refl}
-use Rattle.exact.specs.Table.{table_from}
-use Rattle.long_sums.proofs.no_tops.Goals as goal
-
-pub returns : goal.returns
-unfolding table_from
-returns c = refl

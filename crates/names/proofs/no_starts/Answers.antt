@@ -1,8 +1,0 @@
--- The array is written out.
-use mathlib.Core.Path.{refl}
-use Rattle.exact.specs.Table.{table_from}
-use Rattle.names.proofs.no_starts.Goals as goal
-
-pub returns : goal.returns
-unfolding table_from
-returns c = refl
