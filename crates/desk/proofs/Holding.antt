@@ -25,7 +25,7 @@ use Rattle.desk.specs.declared.Posting.{Posting}
 use Rattle.desk.specs.declared.Table.{Table}
 use Rattle.desk.specs.declared.Posted.{Posted}
 use Rattle.desk.specs.declared.Desk.{Desk}
-use Rattle.desk.specs.Held.{matrix_of, tree_of, posting_of, table_of, of_benches, posted_of, desk_of, bench_table, with_table, anew, bench_tests, named_table, standing_tests, PostingHeld, TableHeld, PostedHeld, Held, Steps}
+use Rattle.desk.specs.Held.{matrix_of, tree_of, posting_of, table_of, of_benches, posted_of, desk_of, bench_table, with_table_on, anew, bench_tests, named_table, standing_tests, PostingHeld, TableHeld, PostedHeld, Held, Steps}
 
 -- ---- a call that is refused, or passes
 pub refused-steps : (d : Desk) (c : calls.Call) (q : Refusal) → Held d → refusal_of q ≡ calls.answer (desk_of d) c → Steps d c (Err q)
@@ -137,7 +137,7 @@ table-held x b t h e = subst (λ (o : Option Table). IfSome o (λ u. TableHeld x
     go true = h.first
     go false = h.second
 
-pub put-held : (x : Posted) (b : ℕ) (t : Option Table) → PostedHeld x → IfSome t (λ u. TableHeld x.posting u) → Held (with_table x b t)
+pub put-held : (x : Posted) (b : ℕ) (t : Option Table) → PostedHeld x → IfSome t (λ u. TableHeld x.posting u) → Held (with_table_on x b t)
 put-held x b t h g = record { posting = h.posting; first = one (eqb b 1); second = two (eqb b 1) }
   where
     one : (q : Bool) → IfSome (cond q t x.first) (λ u. TableHeld x.posting u)
@@ -181,12 +181,12 @@ module _ (x : Posted) (t : Option Table) where
       go false = refl
 
   Put : ℕ → Type 0
-  Put b = desk_of (with_table x b t) ≡ calls.put b (named t) before
+  Put b = desk_of (with_table_on x b t) ≡ calls.put b (named t) before
 
   of-tables : (f g : ℕ → calls.Table) → ((k : ℕ) → f k ≡ g k) → ◌≡◌ {A = calls.Desk} (record { posting = before.posting; tables = f }) (record { posting = before.posting; tables = g })
   of-tables f g h = ap (λ (k : ℕ → calls.Table). record { posting = before.posting; tables = k }) (fun_ext h)
 
-  pub put-desk : (b : ℕ) → calls.bench_out b ≡ false → desk_of (with_table x b t) ≡ calls.put b (named t) before
+  pub put-desk : (b : ℕ) → calls.bench_out b ≡ false → desk_of (with_table_on x b t) ≡ calls.put b (named t) before
   unfolding Put
   put-desk b h = ⊎_elim (λ e. subst Put (sym e) (of-tables _ _ first-put)) (λ e. subst Put (sym e) (of-tables _ _ second-put)) (which-bench b h)
 

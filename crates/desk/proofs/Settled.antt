@@ -1,5 +1,5 @@
 -- One value for each desk: two that are held and stand for the same desk are equal (`one-held`). So each call's contract leaves one answer and
--- one desk (`one-step`).
+-- one desk (`one-step`). In a bench's name stands one table (`one-standing`).
 use mathlib.Core.Path.{◌≡◌, refl, sym, ◌∙◌, ap, ap₂, subst}
 use mathlib.Core.List.{List}
 use Prim.Native.Nat.{ℕ, ◌≤◌}
@@ -17,7 +17,8 @@ use Rattle.desk.specs.declared.Posting.{Posting}
 use Rattle.desk.specs.declared.Table.{Table}
 use Rattle.desk.specs.declared.Posted.{Posted}
 use Rattle.desk.specs.declared.Desk.{Desk}
-use Rattle.desk.specs.Held.{matrix_of, tree_of, posting_of, table_of, posted_of, desk_of, PostingHeld, TableHeld, PostedHeld, Held, Steps}
+use Rattle.desk.specs.declared.Standing.{Standing}
+use Rattle.desk.specs.Held.{matrix_of, tree_of, posting_of, table_of, posted_of, desk_of, bench_table, PostingHeld, TableHeld, PostedHeld, Held, IsStanding, Steps}
 use Rattle.std.specs.Prelude.{Option, Some, None, IfSome, Result, Ok, Err, IfOk}
 use Rattle.verdict.specs.declared.Refusal.{Refusal}
 
@@ -126,3 +127,21 @@ one-step d c r s p q = one_result After After (λ e f a b. one-held e f a.1 b.1 
     gave : (x : Result Desk Refusal) → Steps d c x → IfOk x (λ e. (desk_of e ≡ calls.step (desk_of d) c) × Held e)
     gave (Ok e) a = (a.desk, a.held)
     gave (Err k) a = tt
+
+-- ---- a table that stands
+some : {A : Type 0} {x y : A} → Some x ≡ Some y → x ≡ y
+some {A} {x} {y} e = ap (λ (o : Option A). at o) e
+  where
+    at : Option A → A
+    at None = x
+    at (Some z) = z
+
+as_standing : Posted → Table → Standing
+as_standing x t = record { posted = x; table = t }
+
+pub one-standing : (d : Desk) (b : ℕ) (s t : Standing) → IsStanding d b s → IsStanding d b t → s ≡ t
+unfolding as_standing
+one-standing d b s t i j = ap₂ as_standing same (some (sym i.table ∙ ap (λ (x : Posted). bench_table x b) same ∙ j.table))
+  where
+    same : s.posted ≡ t.posted
+    same = some (sym i.posted ∙ j.posted)

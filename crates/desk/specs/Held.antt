@@ -53,8 +53,16 @@ abbrev pub bench_table : Posted → ℕ → Option Table
 bench_table x b = cond (eqb b 1) x.first x.second
 
 -- a table in the place of bench 1's, or of the other's
-abbrev pub with_table : Posted → ℕ → Option Table → Desk
-with_table x b t = record { posted = Some (record { posting = x.posting; first = cond (eqb b 1) t x.first; second = cond (eqb b 1) x.second t }) }
+abbrev pub with_table_on : Posted → ℕ → Option Table → Desk
+with_table_on x b t = record { posted = Some (record { posting = x.posting; first = cond (eqb b 1) t x.first; second = cond (eqb b 1) x.second t }) }
+
+-- the same on a desk; where nothing is posted nothing can stand, and the desk stays as it is
+abbrev pub put_on : Desk → Option Posted → ℕ → Option Table → Desk
+put_on d None b t = d
+put_on d (Some x) b t = with_table_on x b t
+
+abbrev pub with_table : Desk → ℕ → Option Table → Desk
+with_table d b t = put_on d d.posted b t
 
 -- a posting with no table beside it
 abbrev pub anew : Posting → Desk

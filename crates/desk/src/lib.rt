@@ -5,7 +5,7 @@
 
 ghost use Rattle.std.specs.Prelude.{◌≡◌};
 ghost use Rattle.desk_theory.specs.Desk.{bench_out};
-ghost use Rattle.desk.specs.Held.{bench_table, with_table, anew, PostedFor, StandsFor, IsEmpty};
+ghost use Rattle.desk.specs.Held.{bench_table, named_table, with_table_on, with_table, anew, PostedFor, StandsFor, IsEmpty};
 
 use matrix::Matrix;
 use tree::Tree;
@@ -95,8 +95,8 @@ pub fn posted_for(desk: Desk, bench: u32) -> Result<Posted, Refusal>
     })
 }
 
-// The table of bench 1, or of the other.
-pub fn table_of(posted: Posted, bench: u32) -> Option<Table>
+// The table of bench 1, or of the other, on what is posted.
+pub fn table_on(posted: Posted, bench: u32) -> Option<Table>
     ensures { result ≡ bench_table posted bench }
 {
     if bench == 1 {
@@ -105,21 +105,28 @@ pub fn table_of(posted: Posted, bench: u32) -> Option<Table>
     posted.second
 }
 
+// The same on a desk; none where nothing is posted.
+pub fn table_of(desk: Desk, bench: u32) -> Option<Table>
+    ensures { result ≡ named_table desk.posted bench }
+{
+    table_on(desk.posted?, bench)
+}
+
 // The same tests, then 21 where no table stands in the bench's name; the table.
 pub fn standing_for(desk: Desk, bench: u32) -> Result<Standing, Refusal>
     ensures { StandsFor desk bench result }
 {
     let posted = posted_for(desk, bench)?;
-    let table = table_of(posted, bench).ok_or(Refusal {
+    let table = table_on(posted, bench).ok_or(Refusal {
         reason: Reason::Nothing,
         place: Place::Nowhere,
     })?;
     Ok(Standing { posted, table })
 }
 
-// A table, or none, put in the place of bench 1's, or of the other's.
-pub fn with_table(posted: Posted, bench: u32, table: Option<Table>) -> Desk
-    ensures { result ≡ with_table posted bench table }
+// A table, or none, put in the place of bench 1's, or of the other's, on what is posted.
+pub fn with_table_on(posted: Posted, bench: u32, table: Option<Table>) -> Desk
+    ensures { result ≡ with_table_on posted bench table }
 {
     let mut next = posted;
     if bench == 1 {
@@ -128,4 +135,14 @@ pub fn with_table(posted: Posted, bench: u32, table: Option<Table>) -> Desk
         next.second = table;
     }
     Desk { posted: Some(next) }
+}
+
+// The same on a desk. Where nothing is posted nothing can stand, and the desk stays as it is.
+pub fn with_table(desk: Desk, bench: u32, table: Option<Table>) -> Desk
+    ensures { result ≡ with_table desk bench table }
+{
+    match desk.posted {
+        Some(posted) => with_table_on(posted, bench, table),
+        None => desk,
+    }
 }

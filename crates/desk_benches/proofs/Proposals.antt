@@ -20,7 +20,7 @@ use Rattle.desk.specs.declared.Table.{Table}
 use Rattle.desk.specs.declared.Posted.{Posted}
 use Rattle.desk.specs.declared.Desk.{Desk}
 use Rattle.desk.specs.declared.Standing.{Standing}
-use Rattle.desk.specs.Held.{matrix_of, tree_of, numerators_of, posted_of, desk_of, with_table, TableHeld, PostedHeld, Held, PostedFor, StandsFor, Steps}
+use Rattle.desk.specs.Held.{matrix_of, tree_of, numerators_of, posted_of, desk_of, with_table_on, TableHeld, PostedHeld, Held, PostedFor, StandsFor, Steps}
 use Rattle.desk.proofs.Copies.{copy_size, copy_behind, copy_front}
 use Rattle.desk.proofs.Holding.{refused-steps, passed-steps, propose-asked, propose-refused, withdraw-asked, bench-passed, standing-passed, posted-held, put-held, put-desk}
 use Rattle.desk_benches.specs.Tables.{IsTable}
@@ -64,7 +64,7 @@ module _ (d : Desk) (b D : ℕ) (ns : List ℤ) (h : Held d) where
               (subst (λ (l : List ℤ). Stands Plain x.posting.n (matrix_of x.posting) (tree_of x.posting) D l) (sym front) stands);
         }
 
-        pub proposal-steps : (next : Desk) → next ≡ with_table x b (Some t) → Steps d (calls.propose b D ns) (Ok next)
+        pub proposal-steps : (next : Desk) → next ≡ with_table_on x b (Some t) → Steps d (calls.propose b D ns) (Ok next)
         proposal-steps next e = passed-steps d next (calls.propose b D ns) (sym (ap answer_of fine) ∙ answered)
             (ap desk_of e ∙ put-desk x (Some t) b (bench-passed d b (sym p.answer))
             ∙ ap₂ (λ (u : calls.Table) (y : Option Posted). calls.put b u (posted_of y)) (ap₂ calls.lengths s.d front) (sym p.posted))
@@ -75,7 +75,7 @@ module _ (d : Desk) (b : ℕ) (h : Held d) where
   pub withdrawal_refused : (q : Refusal) → StandsFor d b (Err q) → Steps d (calls.withdraw b) (Err q)
   withdrawal_refused q s = refused-steps d (calls.withdraw b) q h (s.answer ∙ sym (withdraw-asked d b))
 
-  pub withdrawal_steps : (t : Standing) → StandsFor d b (Ok t) → (next : Desk) → next ≡ with_table t.posted b None → Steps d (calls.withdraw b) (Ok next)
+  pub withdrawal_steps : (t : Standing) → StandsFor d b (Ok t) → (next : Desk) → next ≡ with_table_on t.posted b None → Steps d (calls.withdraw b) (Ok next)
   withdrawal_steps t s next e = passed-steps d next (calls.withdraw b) (s.answer ∙ sym (withdraw-asked d b))
       (ap desk_of e ∙ put-desk t.posted None b (standing-passed d b (sym s.answer)) ∙ ap (λ (y : Option Posted). calls.put b calls.none (posted_of y)) (sym s.standing.posted))
       (subst Held (sym e) (put-held t.posted b None (posted-held d t.posted h s.standing.posted) tt))

@@ -50,7 +50,7 @@ pub fn propose(desk: Desk, bench: u32, d: u32, numerators: &[i64]) -> Result<Des
 {
     let posted = desk::posted_for(desk, bench)?;
     judged(posted.posting, d, numerators)?;
-    Ok(desk::with_table(posted, bench, Some(table(d, numerators))))
+    Ok(desk::with_table_on(posted, bench, Some(table(d, numerators))))
 }
 
 // A bench takes its table down: 20, 21, the first that applies.
@@ -59,5 +59,5 @@ pub fn withdraw(desk: Desk, bench: u32) -> Result<Desk, Refusal>
     ensures { Steps desk (withdraw bench) result }
 {
     let standing = desk::standing_for(desk, bench)?;
-    Ok(desk::with_table(standing.posted, bench, None))
+    Ok(desk::with_table_on(standing.posted, bench, None))
 }
