@@ -15,7 +15,8 @@ use Rattle.desk_text.specs.declared.View.{View}
 use Rattle.desk_text.specs.Meaning.{Meaning, call, shows, no_more, word_at, of_form, propose_in, correct_in, bench_in}
 use Rattle.desk_text.specs.Fields.{word, cut_word, cut_distance, cut_numerator, cut}
 use Rattle.desk_text.proofs.Cutting.{cut_low, cut_high}
-use Rattle.desk_words.specs.Reads.{words_at, NumberRead}
+use Rattle.desk_words.specs.Reads.{words_at}
+use Rattle.desk_words.proofs.Reading.{NumberFound}
 use Rattle.desk_words.specs.declared.Parsed.{Parsed}
 use Rattle.desk_posts.proofs.Lining.{field_found, field_value, field_next}
 use Rattle.desk_lines.specs.Lines.{BenchRead, as_meaning, Within, LineIs}
@@ -37,10 +38,10 @@ module _ (s : List ℕ) (at : ℕ) where
   abbrev pub all : List (List ℕ)
   all = words_at s at
 
-  pub no-1 : NumberRead s at None → is_number (word_at 0 all) ≡ false
+  pub no-1 : NumberFound s at None → is_number (word_at 0 all) ≡ false
   no-1 h = field_found s all 0 at refl false h.found-is
 
-  module _ (n : Parsed ℕ) (h : NumberRead s at (Some n)) where
+  module _ (n : Parsed ℕ) (h : NumberFound s at (Some n)) where
     pub is-1 : is_number (word_at 0 all) ≡ true
     is-1 = field_found s all 0 at refl true h.found-is
 
@@ -50,10 +51,10 @@ module _ (s : List ℕ) (at : ℕ) where
     pub next-1 : words_at s n.end ≡ drop 1 all
     next-1 = field_next s all 0 at refl n h.read
 
-    pub no-2 : NumberRead s n.end None → is_number (word_at 1 all) ≡ false
+    pub no-2 : NumberFound s n.end None → is_number (word_at 1 all) ≡ false
     no-2 g = field_found s all 1 n.end next-1 false g.found-is
 
-    module _ (m : Parsed ℕ) (g : NumberRead s n.end (Some m)) where
+    module _ (m : Parsed ℕ) (g : NumberFound s n.end (Some m)) where
       pub is-2 : is_number (word_at 1 all) ≡ true
       is-2 = field_found s all 1 n.end next-1 true g.found-is
 
@@ -63,10 +64,10 @@ module _ (s : List ℕ) (at : ℕ) where
       pub next-2 : words_at s m.end ≡ drop 2 all
       next-2 = field_next s all 1 n.end next-1 m g.read
 
-      pub no-3 : NumberRead s m.end None → is_number (word_at 2 all) ≡ false
+      pub no-3 : NumberFound s m.end None → is_number (word_at 2 all) ≡ false
       no-3 f = field_found s all 2 m.end next-2 false f.found-is
 
-      module _ (l : Parsed ℕ) (f : NumberRead s m.end (Some l)) where
+      module _ (l : Parsed ℕ) (f : NumberFound s m.end (Some l)) where
         pub is-3 : is_number (word_at 2 all) ≡ true
         is-3 = field_found s all 2 m.end next-2 true f.found-is
 

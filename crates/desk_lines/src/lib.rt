@@ -64,8 +64,8 @@ pub fn propose_line(line: &[u8], at: usize, numerators: &mut [i64]) -> Option<Li
     requires { (at ≤ length line.now) × (length line.now ≤ max_line) × (max_words ≤ length numerators.old) }
     ensures { (ds ps : List ℕ) → LineIs (propose_in (words_at line.now at)) ds ps numerators.new result }
 {
-    let bench = desk_words::number_at(line, at)?;
-    let d = desk_words::number_at(line, bench.end)?;
+    let bench = desk_words::number_at(line, at).ok()?;
+    let d = desk_words::number_at(line, bench.end).ok()?;
     let taken = desk_words::numerators(line, d.end, numerators);
     if !desk_posts::over(line, taken.end) {
         return None;
@@ -82,9 +82,9 @@ pub fn correct_line(line: &[u8], at: usize) -> Option<Line>
     requires { at ≤ length line.now }
     ensures { (ds ps : List ℕ) (ns : List ℤ) → LineIs (correct_in (words_at line.now at)) ds ps ns result }
 {
-    let i = desk_words::number_at(line, at)?;
-    let j = desk_words::number_at(line, i.end)?;
-    let far = desk_words::number_at(line, j.end)?;
+    let i = desk_words::number_at(line, at).ok()?;
+    let j = desk_words::number_at(line, i.end).ok()?;
+    let far = desk_words::number_at(line, j.end).ok()?;
     if !desk_posts::over(line, far.end) {
         return None;
     }
@@ -100,7 +100,7 @@ fn bench_of(line: &[u8], at: usize) -> Option<u32>
     requires { at ≤ length line.now }
     ensures { BenchRead (words_at line.now at) result }
 {
-    let bench = desk_words::number_at(line, at)?;
+    let bench = desk_words::number_at(line, at).ok()?;
     if !desk_posts::over(line, bench.end) {
         return None;
     }

@@ -17,12 +17,12 @@ use Rattle.desk_text.specs.Meaning.{Meaning, wrong, call, slash, by_strains, no_
 use Rattle.desk_text.specs.Fields.{cut_to, word, cut_word, cut_distance, cut_parent, cut}
 use Rattle.desk_text.proofs.Cutting.{cut_low, cut_high, strains-cut}
 use Rattle.desk_text.proofs.Splitting.{few_words}
-use Rattle.desk_words.specs.Reads.{words_at, start_at, end_at, WordRead, IsParsed, NumberRead, TakenIn}
+use Rattle.desk_words.specs.Reads.{words_at, start_at, end_at, WordRead, IsParsed, TakenIn}
 use Rattle.desk_words.specs.declared.Word.{Word}
 use Rattle.desk_words.specs.declared.Parsed.{Parsed}
 use Rattle.std.specs.Prelude.{Some, None}
 use Rattle.desk_words.specs.declared.Taken.{Taken}
-use Rattle.desk_words.proofs.Reading.{words-behind, none_left, first_word, cut_twice}
+use Rattle.desk_words.proofs.Reading.{words-behind, none_left, first_word, cut_twice, NumberFound}
 use Rattle.desk_tables.specs.Laid as laid
 use Rattle.desk_tables.proofs.Laying.{strains-size}
 use Rattle.desk_posts.specs.Posts.{FrontRead, BackRead, PostRead}
@@ -62,7 +62,7 @@ taken-size p f s at before after r t = let n = length (leading p (words_at s at)
     ap length t.table_is ∙ length_front before (map f (leading p (words_at s at))) n (length-map (leading p (words_at s at)) f ∙ sym (length-take-le n before (let q = t.count-is in let b = t.few in omega (arith, q, b))))
 
 -- ---- "N distances"
-module _ (s : List ℕ) (at : ℕ) (n : Parsed ℕ) (h : NumberRead s at (Some n)) where
+module _ (s : List ℕ) (at : ℕ) (n : Parsed ℕ) (h : NumberFound s at (Some n)) where
   module _ (strains : ℕ) (e : strains ≡ cut_word n.value) (before after : List ℕ) (t : Taken)
       (taken : TakenIn is_number (λ w. cut_to 65535 65534 (value_of w)) s n.end before after t) (ds ds' : List ℕ) (l : laid.Front (by_strains strains (take t.count after)) ds ds') where
     next : words_at s n.end ≡ drop 1 (words_at s at)

@@ -44,7 +44,7 @@ fn distances_of(line: &[u8], at: usize, numbers: &mut [u16], distances: &mut [u1
     requires { (at ≤ length line.now) × (length line.now ≤ max_line) × (max_words ≤ length numbers.old) × (max_words ≤ length distances.old) }
     ensures { FrontRead line.now at distances.new result }
 {
-    let n = desk_words::number_at(line, at)?;
+    let n = desk_words::number_at(line, at).ok()?;
     let strains = word(n.value);
     let taken = desk_words::numbers(line, n.end, 65535, 65534, numbers);
     desk_tables::lay_distances(strains, &numbers[..taken.count], distances);

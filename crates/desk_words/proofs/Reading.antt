@@ -1,6 +1,7 @@
 -- The first word from a place on, by positions: it is the letters behind the blanks (`first_word`), behind it stand the others
 -- (`words-behind`), and there is none exactly where no letter stands there (`none_left`). Then what is read as a number: of the letters at a
--- place (`no-digits`, `word-goes-on`, `all_digits`), of a word (`number_read`), of a word that may have a minus (`minus-read`, `plain-read`).
+-- place (`no-digits`, `word-goes-on`, `all_digits`), of a word (`number-from`, `number_found`), of a word that may have a minus (`minus-from`,
+-- `plain-from`).
 use mathlib.Core.Path.{◌≡◌, refl, sym, ◌∙◌, ap, ap₂, subst}
 use mathlib.Core.Bool.{Bool, true, false, true≢false}
 use mathlib.Core.List.{List, [], ◌∷◌}
@@ -22,9 +23,10 @@ use Rattle.desk_text.specs.Meaning.{word_at, no_more}
 use Rattle.desk_text.specs.Fields.{cut_to, cut_magnitude, cut_numerator}
 use Rattle.desk_text.proofs.Cutting.{cut_high}
 use Rattle.desk_text.proofs.Splitting.{words-past, past-over, over_none, letters-more, words-first, digits-end-word, number-none, number-some}
-use Rattle.desk_words.specs.Reads.{words_at, start_at, end_at, letters_at, ReadAs, DigitsRead, NumberRead, with_sign, signed, SignedRead}
+use Rattle.desk_words.specs.Reads.{words_at, start_at, end_at, letters_at, ReadAs, ReadFrom, DigitsRead, NumberRead, with_sign, signed, SignedRead}
 use Rattle.desk_words.specs.declared.Parsed.{Parsed}
-use Rattle.std.specs.Prelude.{Option, Some, None}
+use Rattle.std.specs.Prelude.{Option, Some, None, ok_or, Result, Ok, Err}
+use Rattle.std.specs.Result.{result_ok}
 
 module _ (s : List ℕ) (at : ℕ) where
   -- the line behind the blanks
@@ -119,8 +121,22 @@ module _ (s : List ℕ) (at end : ℕ) (h : at ≤ length s) (e : end ≡ at + r
       }
 
 -- ---- a word
-pub number_read : (s : List ℕ) (at : ℕ) (r : Option (Parsed ℕ)) → DigitsRead s (start_at s at) r → NumberRead s at r
-number_read s at r d = subst (λ (w : List ℕ). ReadAs s (is_number w) (at_most (value_of w)) (end_at s at) r) (first_word s at) d
+-- where there is no number, the place where the word begins
+placed : {A : Type 0} (s : List ℕ) (at start : ℕ) (of_kind : Bool) (value : A) (r : Option (Parsed A)) → start ≡ start_at s at → start ≤ length s
+    → ReadAs s of_kind value (end_at s at) r → ReadFrom s at of_kind value (ok_or r start)
+placed s at start of_kind value None e h d = record { found-is = d.found-is; read = tt; none = (e, h) }
+placed s at start of_kind value (Some n) e h d = record { found-is = d.found-is; read = d.read; none = tt }
+
+-- the number where there is one
+abbrev pub NumberFound : List ℕ → ℕ → Option (Parsed ℕ) → Type 0
+NumberFound s at r = ReadAs s (is_number (word_at 0 (words_at s at))) (at_most (value_of (word_at 0 (words_at s at)))) (end_at s at) r
+
+pub number_found : (s : List ℕ) (at : ℕ) (r : Result (Parsed ℕ) ℕ) (o : Option (Parsed ℕ)) → NumberRead s at r → o ≡ result_ok r → NumberFound s at o
+number_found s at r o d e = subst (NumberFound s at) (sym e) (go r d)
+  where
+    go : (r : Result (Parsed ℕ) ℕ) → NumberRead s at r → NumberFound s at (result_ok r)
+    go (Ok n) d = record { found-is = d.found-is; read = d.read }
+    go (Err k) d = record { found-is = d.found-is; read = tt }
 
 -- the place behind a word that is of a kind no empty word is of
 pub word-further : (p : List ℕ → Bool) (s : List ℕ) (at : ℕ) → p [] ≡ false → p (word_at 0 (words_at s at)) ≡ true → at < end_at s at
@@ -144,6 +160,10 @@ pub cut_twice : (most above x : ℕ) → most < 1000000000000000 → cut_to most
 cut_twice most above x h = by_cases (dec_lt 1000000000000000 x)
     (λ l. ap (cut_to most above) (high_cut x l) ∙ cut_high most above 1000000000000000 h ∙ sym (cut_high most above x (omega arith)))
     (λ n. ap (cut_to most above) (low-cut x (omega arith)))
+
+-- the number with its sign where there is one
+abbrev SignedFound : List ℕ → ℕ → Option (Parsed ℤ) → Type 0
+SignedFound s at r = ReadAs s (is_signed (word_at 0 (words_at s at))) (cut_numerator (signed_of (word_at 0 (words_at s at)))) (end_at s at) r
 
 -- the same number with its sign: where one is found, and what it is
 signed-read : (minus : Bool) (s : List ℕ) (here there : Bool) (w : List ℕ) (end end' : ℕ) (z : ℤ) (r : Option (Parsed ℕ)) → here ≡ there → z ≡ with_sign minus (cut_magnitude (value_of w)) → end ≡ end'
@@ -175,7 +195,7 @@ module _ (s : List ℕ) (at : ℕ) (r : Option (Parsed ℕ)) where
     word-is : word_at 0 (words_at s at) ≡ 45 ∷ letters_at s (start + 1)
     word-is = sym (first_word s at) ∙ ap₂ (λ (n : ℕ) (l : List ℕ). take n l) letters front-cons ∙ rw add-one refl
 
-    pub minus-read : SignedRead s at (signed true r)
+    pub minus-read : SignedFound s at (signed true r)
     unfolding is_signed signed_of
     minus-read = signed-read true s _ _ (letters_at s (start + 1)) _ _ _ r (sym (ap is_signed word-is))
         (ap (λ (w : List ℕ). cut_numerator (signed_of w)) word-is ∙ negated (value_of (letters_at s (start + 1)))) (rw add-one (omega (arith, letters))) d
@@ -195,18 +215,21 @@ module _ (s : List ℕ) (at : ℕ) (r : Option (Parsed ℕ)) where
     as_plain = subst (λ (w : List ℕ). (is_signed w ≡ is_number (letters_at s start)) × (signed_of w ≡ pos (value_of (letters_at s start)))) (first_word s at)
         (unsigned (letters_at s start) (first_byte (run is_letter (drop start s))))
 
-    pub plain-read : SignedRead s at (signed false r)
+    pub plain-read : SignedFound s at (signed false r)
     plain-read = signed-read false s _ _ (letters_at s start) _ _ _ r (sym as_plain.0) (ap cut_numerator as_plain.1) refl d
 
 -- ---- the same, from the place that the blanks' end was found at
-module _ (s : List ℕ) (at start : ℕ) (r : Option (Parsed ℕ)) (e : start ≡ start_at s at) where
-  pub number-from : DigitsRead s start r → NumberRead s at r
-  number-from d = number_read s at r (subst (λ (k : ℕ). DigitsRead s k r) e d)
+module _ (s : List ℕ) (at start : ℕ) (r : Option (Parsed ℕ)) (e : start ≡ start_at s at) (h : start ≤ length s) where
+  pub number-from : (o : Result (Parsed ℕ) ℕ) → DigitsRead s start r → o ≡ ok_or r start → NumberRead s at o
+  number-from o d g = subst (NumberRead s at) (sym g) (placed s at start _ _ r e h
+      (subst (λ (w : List ℕ). ReadAs s (is_number w) (at_most (value_of w)) (end_at s at) r) (first_word s at) (subst (λ (k : ℕ). DigitsRead s k r) e d)))
 
-  pub minus-from : (q : Option (Parsed ℤ)) → get_or s start 0 ≡ 45 → DigitsRead s (start + 1) r → q ≡ signed true r → SignedRead s at q
-  minus-from q m d f = subst (SignedRead s at) (sym f)
-      (minus-read s at r (ap (λ (k : ℕ). get_or s k 0) (sym e) ∙ m) (subst (λ (k : ℕ). DigitsRead s (k + 1) r) e d))
+  signed-from : (q : Option (Parsed ℤ)) (o : Result (Parsed ℤ) ℕ) (minus : Bool) → SignedFound s at (signed minus r) → q ≡ signed minus r → o ≡ ok_or q start → SignedRead s at o
+  signed-from q o minus d f g = subst (SignedRead s at) (sym g) (placed s at start _ _ q e h (subst (SignedFound s at) (sym f) d))
 
-  pub plain-from : (q : Option (Parsed ℤ)) → (get_or s start 0 ≡ 45 → ⊥) → start ≤ length s → DigitsRead s start r → q ≡ signed false r → SignedRead s at q
-  plain-from q m h d f = subst (SignedRead s at) (sym f)
-      (plain-read s at r (λ z. m (ap (λ (k : ℕ). get_or s k 0) e ∙ z)) (subst (λ (k : ℕ). k ≤ length s) e h) (subst (λ (k : ℕ). DigitsRead s k r) e d))
+  pub minus-from : (q : Option (Parsed ℤ)) (o : Result (Parsed ℤ) ℕ) → get_or s start 0 ≡ 45 → DigitsRead s (start + 1) r → q ≡ signed true r → o ≡ ok_or q start → SignedRead s at o
+  minus-from q o m d f g = signed-from q o true (minus-read s at r (ap (λ (k : ℕ). get_or s k 0) (sym e) ∙ m) (subst (λ (k : ℕ). DigitsRead s (k + 1) r) e d)) f g
+
+  pub plain-from : (q : Option (Parsed ℤ)) (o : Result (Parsed ℤ) ℕ) → (get_or s start 0 ≡ 45 → ⊥) → DigitsRead s start r → q ≡ signed false r → o ≡ ok_or q start → SignedRead s at o
+  plain-from q o m d f g = signed-from q o false
+      (plain-read s at r (λ z. m (ap (λ (k : ℕ). get_or s k 0) e ∙ z)) (subst (λ (k : ℕ). k ≤ length s) e h) (subst (λ (k : ℕ). DigitsRead s k r) e d)) f g

@@ -1,5 +1,5 @@
 -- What is read of a line from a place on: a word, a number, and a run of numbers.
-use Rattle.std.specs.Prelude.{◌≡◌, Bool, true, false, List, map, ◌++◌, ℕ, ◌+◌, ◌≤◌, ℤ, pos, neg_ℤ, length, take, drop, Option, Some, None, is_some, IfSome}
+use Rattle.std.specs.Prelude.{◌≡◌, Bool, true, false, List, map, ◌++◌, ℕ, ◌+◌, ◌≤◌, ℤ, pos, neg_ℤ, length, take, drop, Option, Some, None, is_some, IfSome, Result, is_ok, IfOk, IfErr}
 use Rattle.digits.specs.Digits.{run, is_blank, at_most}
 use Rattle.desk_text.specs.Words.{is_letter, words, is_number, value_of, is_signed, signed_of, leading, behind}
 use Rattle.desk_text.specs.Meaning.{word_at}
@@ -46,9 +46,15 @@ pub record ReadAs {A : Type 0} (s : List ℕ) (of_kind : Bool) (value : A) (end 
 abbrev pub DigitsRead : List ℕ → ℕ → Option (Parsed ℕ) → Type 0
 DigitsRead s at r = ReadAs s (is_number (letters_at s at)) (at_most (value_of (letters_at s at))) (letters_end s at) r
 
+-- of the first word from a place on: the number, or where the word begins that is none
+pub record ReadFrom {A : Type 0} (s : List ℕ) (at : ℕ) (of_kind : Bool) (value : A) (r : Result (Parsed A) ℕ) : Type 0 where
+  pub found-is : is_ok r ≡ of_kind
+  pub read : IfOk r (λ n. IsParsed s value (end_at s at) n)
+  pub none : IfErr r (λ k. (k ≡ start_at s at) × (k ≤ length s))
+
 -- the first word from a place on as a number
-abbrev pub NumberRead : List ℕ → ℕ → Option (Parsed ℕ) → Type 0
-NumberRead s at r = ReadAs s (is_number (word_at 0 (words_at s at))) (at_most (value_of (word_at 0 (words_at s at)))) (end_at s at) r
+abbrev pub NumberRead : List ℕ → ℕ → Result (Parsed ℕ) ℕ → Type 0
+NumberRead s at r = ReadFrom s at (is_number (word_at 0 (words_at s at))) (at_most (value_of (word_at 0 (words_at s at)))) r
 
 -- a magnitude with its sign
 abbrev pub with_sign : Bool → ℕ → ℤ
@@ -61,8 +67,8 @@ signed minus None = None
 signed minus (Some n) = Some (record { value = with_sign minus (cut_magnitude n.value); end = n.end })
 
 -- the first word from a place on as a number that may have a minus
-abbrev pub SignedRead : List ℕ → ℕ → Option (Parsed ℤ) → Type 0
-SignedRead s at r = ReadAs s (is_signed (word_at 0 (words_at s at))) (cut_numerator (signed_of (word_at 0 (words_at s at)))) (end_at s at) r
+abbrev pub SignedRead : List ℕ → ℕ → Result (Parsed ℤ) ℕ → Type 0
+SignedRead s at r = ReadFrom s at (is_signed (word_at 0 (words_at s at))) (cut_numerator (signed_of (word_at 0 (words_at s at)))) r
 
 -- the words of a kind at the front, each as f says, laid into the front of a table; behind them stands what stood there
 pub record TakenIn {A : Type 0} (p : List ℕ → Bool) (f : List ℕ → A) (s : List ℕ) (at : ℕ) (before after : List A) (r : Taken) : Type 0 where

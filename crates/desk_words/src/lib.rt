@@ -76,12 +76,13 @@ fn digits_at(line: &[u8], at: usize) -> Option<Parsed<u64>>
     })
 }
 
-// The first word from a place on as a number.
-pub fn number_at(line: &[u8], at: usize) -> Option<Parsed<u64>>
+// The first word from a place on as a number; where it is none, where it begins.
+pub fn number_at(line: &[u8], at: usize) -> Result<Parsed<u64>, usize>
     requires { at ≤ length line.now }
     ensures { NumberRead line.now at result }
 {
-    digits_at(line, digits::blanks_end(line, at))
+    let start = digits::blanks_end(line, at);
+    digits_at(line, start).ok_or(start)
 }
 
 // A number that is at most `most`, and `above` for one that is not.
@@ -120,16 +121,16 @@ fn signed(minus: bool, read: Option<Parsed<u64>>) -> Option<Parsed<i64>>
     })
 }
 
-// The first word from a place on as a number that may have a minus.
-pub fn signed_at(line: &[u8], at: usize) -> Option<Parsed<i64>>
+// The first word from a place on as a number that may have a minus; where it is none, where it begins.
+pub fn signed_at(line: &[u8], at: usize) -> Result<Parsed<i64>, usize>
     requires { at ≤ length line.now }
     ensures { SignedRead line.now at result }
 {
     let start = digits::blanks_end(line, at);
     if digits::byte_at(line, start) == b'-' {
-        return signed(true, digits_at(line, start + 1));
+        return signed(true, digits_at(line, start + 1)).ok_or(start);
     }
-    signed(false, digits_at(line, start))
+    signed(false, digits_at(line, start)).ok_or(start)
 }
 
 // What was taken: how many words, and where they end.
@@ -146,7 +147,7 @@ pub fn numbers(line: &[u8], at: usize, most: u16, above: u16, into: &mut [u16]) 
 {
     let mut count = 0;
     let mut end = at;
-    while let Some(next) = number_at(line, end) {
+    while let Ok(next) = number_at(line, end) {
         into[count] = field(next.value, most as u64, above as u64) as u16;
         count += 1;
         end = next.end;
@@ -161,7 +162,7 @@ pub fn numerators(line: &[u8], at: usize, into: &mut [i64]) -> Taken
 {
     let mut count = 0;
     let mut end = at;
-    while let Some(next) = signed_at(line, end) {
+    while let Ok(next) = signed_at(line, end) {
         into[count] = next.value;
         count += 1;
         end = next.end;
