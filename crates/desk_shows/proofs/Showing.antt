@@ -29,6 +29,7 @@ use Rattle.desk.specs.declared.Desk.{Desk}
 use Rattle.desk.specs.declared.Standing.{Standing}
 use Rattle.desk.specs.Held.{matrix_of, tree_of, numerators_of, posting_of, table_of, posted_of, desk_of, bench_table, standing_tests, PostedHeld, Held, IsStanding, StandsFor}
 use Rattle.desk.proofs.Holding.{buffer_tests, report-asked, standing-passed, bench-named, posted-held}
+use Rattle.desk.proofs.Settled.{one-standing}
 use Rattle.desk_report.specs.Reports.{OnPosting, DeskReport}
 use Rattle.desk_report.proofs.Reporting.{few-edges}
 use Rattle.desk_pairs.specs.Pairs.{its_pairs, shown_pairs, pairs_on}
@@ -45,13 +46,6 @@ get_d_front (x ∷ xs) ys (suc v) h = get_d_front xs ys v (omega arith)
 pub by-answer_cong : (a b : Answer) (s t : List ℕ) → a ≡ b → (b ≡ pass → s ≡ t) → by_answer a s ≡ by_answer b t
 by-answer_cong a pass s t e h = ap (λ (x : Answer). by_answer x s) e ∙ h refl
 by-answer_cong a (fault k p) s t e h = ap (λ (x : Answer). by_answer x s) e
-
-some : {A : Type 0} {x y : A} → Some x ≡ Some y → x ≡ y
-some {A} {x} {y} e = ap (λ (o : Option A). at o) e
-  where
-    at : Option A → A
-    at None = x
-    at (Some z) = z
 
 or_pass : (a : Answer) → (a or_else pass) ≡ a
 or_pass pass = refl
@@ -123,10 +117,6 @@ module _ (d : Desk) (b : ℕ) where
               ∙ sym (ap (table_text views.Report (posting_of s.posted.posting)) (bench-named s.posted b (standing-passed d b e)))
               ∙ sym (ap (λ (p : Option Posted). table_text views.Report (posted_of p).posting ((posted_of p).tables b)) g.standing.posted)
 
-          same-table : (t : Standing) → IsStanding d b t → (t.posted ≡ s.posted) × (t.table ≡ s.table)
-          same-table t i = let e : t.posted ≡ s.posted = some (sym i.posted ∙ g.standing.posted) in
-              (e, some (sym i.table ∙ ap (λ (y : Posted). bench_table y b) e ∙ g.standing.table))
-
           of-table : OnPosting s.posted.posting s.table after x
               → fit_text Plain x.strains x.edges x.denominator (entry_of s.table.numerators) (entry_of (after ++ back)) x.length x.f x.r x.h x.mean ≡ table_text views.Report (posting_of s.posted.posting) (table_of s.posted.posting.edges (Some s.table))
           of-table p = let y = s.posted.posting in let ns = numerators_of y.edges s.table in
@@ -138,8 +128,7 @@ module _ (d : Desk) (b : ℕ) where
 
           text-is : standing_tests d b ≡ pass → (t : Standing) × IsStanding d b t × OnPosting t.posted.posting t.table after x
               → fit_text Plain x.strains x.edges x.denominator (entry_of s.table.numerators) (entry_of (after ++ back)) x.length x.f x.r x.h x.mean ≡ table_text views.Report (desk_of d).posting ((desk_of d).tables b)
-          text-is e (t, i, q) = let (same, table_is) = same-table t i in
-              of-table (subst (λ (y : Table). OnPosting s.posted.posting y after x) table_is (subst (λ (y : Posted). OnPosting y.posting t.table after x) same q)) ∙ named e
+          text-is e (t, i, q) = of-table (subst (λ (y : Standing). OnPosting y.posted.posting y.table after x) (one-standing d b t s i g.standing) q) ∙ named e
 
 -- what the match told was asked for
 pub shown_as : (d : calls.Desk) (v v' : View) (b : ℕ) (before after : List ℕ) (next : ℕ) → v ≡ v' → Wrote before after 0 (show_text d v' b) next → Wrote before after 0 (show_text d v b) next
