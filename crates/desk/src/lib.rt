@@ -79,20 +79,25 @@ fn no_bench(bench: u32) -> bool
     bench != 1 && bench != 2
 }
 
+// The refusals of a number that is no bench's, and of a call for what is not there.
+const NO_BENCH: Refusal = Refusal {
+    reason: Reason::Bench,
+    place: Place::Nowhere,
+};
+
+const NOTHING: Refusal = Refusal {
+    reason: Reason::Nothing,
+    place: Place::Nowhere,
+};
+
 // What a bench's call is asked first: 20 where its number is no bench's, then 21 where nothing is posted; what is posted.
 pub fn posted_for(desk: Desk, bench: u32) -> Result<Posted, Refusal>
     ensures { PostedFor desk bench result }
 {
     if no_bench(bench) {
-        return Err(Refusal {
-            reason: Reason::Bench,
-            place: Place::Nowhere,
-        });
+        return Err(NO_BENCH);
     }
-    desk.posted.ok_or(Refusal {
-        reason: Reason::Nothing,
-        place: Place::Nowhere,
-    })
+    desk.posted.ok_or(NOTHING)
 }
 
 // The table of bench 1, or of the other, on what is posted.
@@ -112,16 +117,26 @@ pub fn table_of(desk: Desk, bench: u32) -> Option<Table>
     table_on(desk.posted?, bench)
 }
 
-// The same tests, then 21 where no table stands in the bench's name; the table.
+// The same tests, then 21 where no table stands in the bench's name; the table. It looks where the desk lies, since to hand on what is
+// posted is to copy it.
 pub fn standing_for(desk: Desk, bench: u32) -> Result<Standing, Refusal>
     ensures { StandsFor desk bench result }
 {
-    let posted = posted_for(desk, bench)?;
-    let table = table_on(posted, bench).ok_or(Refusal {
-        reason: Reason::Nothing,
-        place: Place::Nowhere,
-    })?;
-    Ok(Standing { posted, table })
+    if no_bench(bench) {
+        return Err(NO_BENCH);
+    }
+    let Some(posted) = desk.posted else {
+        return Err(NOTHING);
+    };
+    let found = if bench == 1 {
+        posted.first
+    } else {
+        posted.second
+    };
+    match found {
+        Some(table) => Ok(Standing { posted, table }),
+        None => Err(NOTHING),
+    }
 }
 
 // A table, or none, put in the place of bench 1's, or of the other's, on what is posted.

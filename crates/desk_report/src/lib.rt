@@ -12,22 +12,19 @@ use reporting::FitReport;
 use verdict::{Place, Reason, Refusal, Rule};
 
 // The numbers of a table that stands, with its rounded lengths in the buffer.
-fn numbers_of(posting: Posting, table: Table, rounded: &mut [i64]) -> FitReport
+pub fn numbers_of(posting: Posting, table: Table, rounded: &mut [i64]) -> FitReport
     requires posting_held { PostingHeld posting }
     requires table_held { TableHeld posting table }
     requires rounded_len { length rounded.old ≡ posting.edges }
     ensures { Reported Rule.Plain posting.n (matrix_of posting) (tree_of posting) table.d (numerators_of posting.edges table) rounded.new result }
 {
-    let distances = posting.distances;
-    let parents = posting.parents;
-    let numerators = table.numerators;
     reporting::numbered(
         Rule::Plain,
         posting.n,
-        &distances[..posting.pairs],
-        &parents[..posting.edges],
+        &posting.distances[..posting.pairs],
+        &posting.parents[..posting.edges],
         table.d,
-        &numerators[..posting.edges],
+        &table.numerators[..posting.edges],
         rounded,
     )
 }

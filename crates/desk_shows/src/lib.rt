@@ -21,7 +21,11 @@ fn report_of(desk: Desk, bench: u32) -> Result<SheetFit, Refusal>
     let edges = standing.posted.posting.edges;
     let numerators = standing.table.numerators;
     let mut rounded: [i64; tree::Tree::MAX_EDGES] = arrays::filled(0);
-    let report = desk_report::report(desk, bench, &mut rounded[..edges])?;
+    let report = desk_report::numbers_of(
+        standing.posted.posting,
+        standing.table,
+        &mut rounded[..edges],
+    );
     Ok(SheetFit {
         report,
         numerators,
