@@ -17,7 +17,7 @@ use phylip_survey::MAX_TEXT;
 fn strains_for(text: &[u8]) -> usize
     ensures { result ≡ strains_for text.now }
 {
-    let Some(count) = phylip_lines::strain_count(text) else {
+    let Ok(count) = phylip_lines::strain_count(text) else {
         return 0;
     };
     if count.strains > Matrix::MAX_STRAINS as u64 {

@@ -13,8 +13,9 @@ use Rattle.exact.proofs.Decide.{by_cases}
 use Rattle.digits.specs.Digits.{run, is_blank, is_digit, at_most, number_from}
 use Rattle.digits.proofs.Reading.{both_true, inside, slice_is}
 use Rattle.phylip_text.specs.Form.{past, line_end_size, line_end, end_bad, next_line, count_size, count_of, behind_count}
-use Rattle.std.specs.Prelude.{Some, None}
-use Rattle.phylip_lines.specs.Lines.{EndRead, CountRead}
+use Rattle.std.specs.Prelude.{Result, Ok, Err, is_err}
+use Rattle.phylip_lines.specs.declared.Count.{Count}
+use Rattle.phylip_lines.specs.Lines.{end_place, EndRead, count_place, CountRead}
 
 -- a line end is in the text
 ends-within : (s : List ℕ) (k : ℕ) → k ≤ length s → k + line_end_size (get_or s k 0) (get_or s (k + 1) 0) ≤ length s
@@ -53,14 +54,16 @@ module _ (s : List ℕ) (at end : ℕ) (e : end ≡ at + run is_blank (drop at s
     unfolding end_bad
     bad-of bad eb = eb ∙ ap₂ (λ (p : Bool) (n : ℕ). not p && eqb n 0) over-is (as_text ∙ sym size_is)
 
-    pub no_end : (bad : Bool) → bad ≡ (not (eqb end (length s)) && eqb size 0) → bad ≡ true → EndRead s at None
-    no_end bad eb e = record { bad-is = sym e ∙ bad-of bad eb; next = tt }
-
-    pub end_read : (bad : Bool) → bad ≡ (not (eqb end (length s)) && eqb size 0) → bad ≡ false → EndRead s at (Some (end + size))
+    next-of : drop (end + size) s ≡ next_line (drop at s)
     unfolding next_line
-    end_read bad eb e = record {
-      bad-is = sym e ∙ bad-of bad eb;
-      next = (end-within, sym (drop-drop size end s) ∙ ap₂ (λ (n : ℕ) (l : List ℕ). drop n l) (as_text ∙ sym size_is) (sym past_is));
+    next-of = sym (drop-drop size end s) ∙ ap₂ (λ (n : ℕ) (l : List ℕ). drop n l) (as_text ∙ sym size_is) (sym past_is)
+
+    -- an end, or none: the place is the same sum
+    pub end_read : (bad : Bool) → bad ≡ (not (eqb end (length s)) && eqb size 0) → (r : Result ℕ ℕ) → is_err r ≡ bad → end_place r ≡ end + size → EndRead s at r
+    end_read bad eb r e p = record {
+      bad-is = e ∙ bad-of bad eb;
+      within = rw p end-within;
+      next-is = ap (λ (k : ℕ). drop k s) p ∙ next-of;
     }
 
 module _ (s : List ℕ) (start end : ℕ) (e : start ≡ 0 + run is_blank (drop 0 s)) (f : end ≡ start + run is_digit (drop start s)) (h : end ≤ length s) where
@@ -76,16 +79,18 @@ module _ (s : List ℕ) (start end : ℕ) (e : start ≡ 0 + run is_blank (drop 
       (λ q. eq-eqb start end q ∙ sym (eq-eqb (count_size s) 0 (omega (arith, digits_are))))
       (λ q. ne_eqb start end q ∙ sym (ne_eqb (count_size s) 0 (λ z. q (omega (arith, digits_are, f, z)))))
 
-  pub no_count : start ≡ end → CountRead s None
-  no_count q = record { none_is = sym (eq-eqb start end q) ∙ none_is; counted = tt }
+  behind-of : drop end s ≡ behind_count s
+  unfolding behind_count
+  behind-of = let q : end ≡ start + count_size s = omega (arith, digits_are, f) in ap (λ (k : ℕ). drop k s) q ∙ sym (drop-drop (count_size s) start s) ∙ ap (drop (count_size s)) (sym begins)
 
-  pub count-read : (n : ℕ) → (start ≡ end → ⊥) → n ≡ at_most (number_from 0 (slice start end s)) → CountRead s (Some (record { strains = n; end = end }))
-  unfolding count_of behind_count
+  pub no_count : start ≡ end → CountRead s (Err end)
+  no_count q = record { none_is = sym (eq-eqb start end q) ∙ none_is; strains_are = tt; within = h; behind-is = behind-of }
+
+  pub count-read : (n : ℕ) → (start ≡ end → ⊥) → n ≡ at_most (number_from 0 (slice start end s)) → CountRead s (Ok (record { strains = n; end = end }))
+  unfolding count_of
   count-read n d es = record {
     none_is = sym (ne_eqb start end d) ∙ none_is;
-    counted = record {
-      strains_are = es ∙ ap (λ (l : List ℕ). at_most (number_from 0 l)) (slice_is s start end ∙ ap₂ (λ (k : ℕ) (l : List ℕ). take k l) (sym digits_are) (sym begins));
-      within = h;
-      behind-is = let q : end ≡ start + count_size s = omega (arith, digits_are, f) in ap (λ (k : ℕ). drop k s) q ∙ sym (drop-drop (count_size s) start s) ∙ ap (drop (count_size s)) (sym begins);
-    };
+    strains_are = es ∙ ap (λ (l : List ℕ). at_most (number_from 0 l)) (slice_is s start end ∙ ap₂ (λ (k : ℕ) (l : List ℕ). take k l) (sym digits_are) (sym begins));
+    within = h;
+    behind-is = behind-of;
   }

@@ -31,17 +31,19 @@ fn unended(at: usize, length: usize, size: usize) -> bool
     size == 0
 }
 
-// Where the line behind the one at a place begins, whose blanks and end are passed; none where nothing ends it.
-pub fn line_end(text: &[u8], at: usize) -> Option<usize>
+// Where the line behind the one at a place begins, whose blanks and end are passed; the error, where nothing ends it, is the place
+// behind the blanks, where its end should stand.
+pub fn line_end(text: &[u8], at: usize) -> Result<usize, usize>
     requires { at ≤ length text.now }
     ensures { EndRead text.now at result }
 {
     let end = digits::blanks_end(text, at);
     let size = line_end_size(digits::byte_at(text, end), digits::byte_at(text, end + 1));
+    let next = end + size;
     if unended(end, text.len(), size) {
-        return None;
+        return Err(next);
     }
-    Some(end + size)
+    Ok(next)
 }
 
 // The count of a text: what it is, cut, and where it ends.
@@ -51,16 +53,16 @@ pub struct Count {
     pub end: usize,
 }
 
-// The count at the front of a text, behind blanks; none where no digit stands there.
-pub fn strain_count(text: &[u8]) -> Option<Count>
+// The count at the front of a text, behind blanks; the error, where no digit stands there, is the place behind the blanks.
+pub fn strain_count(text: &[u8]) -> Result<Count, usize>
     ensures { CountRead text.now result }
 {
     let start = digits::blanks_end(text, 0);
     let end = digits::digits_end(text, start);
     if start == end {
-        return None;
+        return Err(end);
     }
-    Some(Count {
+    Ok(Count {
         strains: digits::number(text, 0, start, end),
         end,
     })

@@ -20,7 +20,7 @@ use Rattle.cells.specs.Row.{rest, cell_text, cell_bad, Read}
 use Rattle.cells.specs.declared.RowRead.{RowRead}
 use Rattle.phylip_text.specs.Form.{name_size, name_bad, cells_of, behind_cells, end_bad, next_line, row_bad, row_text, rows_bad, cell_at, decimals_out, entry_at}
 use Rattle.phylip_lines.specs.Lines.{EndRead}
-use Rattle.std.specs.Prelude.{Some, None}
+use Rattle.std.specs.Prelude.{Some, None, Ok, Err}
 use Rattle.phylip_rows.specs.Rows.{NameRead, RowIs, RowsRead}
 
 or_left : (a b : Bool) → a ≡ true → (a || b) ≡ true
@@ -60,14 +60,14 @@ module _ (s : List ℕ) (at n i : ℕ) (grid names : List ℕ) where
       ends-here : drop read.end s ≡ behind_cells n l
       ends-here = c.cells.behind-all ∙ ap (λ (x : List ℕ). rest n x) cells-here
 
-      module _ (d : EndRead s read.end None) where
+      module _ {at_fault : ℕ} (d : EndRead s read.end (Err at_fault)) where
         pub row-no-end : RowIs s at n i grid grid' names names' None
         unfolding row_bad
         row-no-end = bad
             (or_right (name_bad l) (some n (cell_bad (cells_of l)) || end_bad (behind_cells n l)) (or_right (some n (cell_bad (cells_of l))) (end_bad (behind_cells n l)) (ap end_bad (sym ends-here) ∙ sym d.bad-is)))
             c.size m.size c.kept m.kept
 
-      module _ {end : ℕ} (d : EndRead s read.end (Some end)) where
+      module _ {end : ℕ} (d : EndRead s read.end (Ok end)) where
         pub row_read : no_name ≡ false → RowIs s at n i grid grid' names names' (Some (record { end = end; out = read.out }))
         unfolding row_bad
         row_read e = record {
@@ -77,8 +77,8 @@ module _ (s : List ℕ) (at n i : ℕ) (grid names : List ℕ) where
           grid_kept = c.kept;
           names-kept = m.kept;
           row = record {
-            within = d.next.0;
-            next = d.next.1 ∙ ap next_line ends-here;
+            within = d.within;
+            next = d.next-is ∙ ap next_line ends-here;
             out-is = c.cells.out-is ∙ ap (λ (x : List ℕ). some n (λ j. cell_out (cell_text x j))) cells-here;
             entries = λ j h. c.cells.each j h ∙ ap (λ (x : List ℕ). cell_entry (cell_text x j)) cells-here;
             name = m.each e;

@@ -54,8 +54,10 @@ fn row(
         return None;
     }
     let read = cells::cells(text, at + NAME, n, Matrix::MAX_STRAINS * i, grid)?;
-    let end = phylip_lines::line_end(text, read.end)?;
-    Some(RowRead { end, out: read.out })
+    match phylip_lines::line_end(text, read.end) {
+        Ok(end) => Some(RowRead { end, out: read.out }),
+        Err(_) => None,
+    }
 }
 
 // The n rows at a place: whether a decimal is out; none where they are not of the form, or something follows them.

@@ -55,12 +55,12 @@ module _ (t : List ℕ) where
     none_told : (b : Bool) → b ≡ eqb (count_size t) 0 → head_tests t ≡ counts b (strains_out (count_of t)) (end_bad (behind_count t))
     none_told b e = ap₂ (λ (p q : Bool). counts (p || q) (strains_out (count_of t)) (end_bad (behind_count t))) short (sym e)
 
-    pub countless_told : CountRead t None → fault 17 Nowhere ≡ head_tests t
+    pub countless_told : {at_fault : ℕ} → CountRead t (Err at_fault) → fault 17 Nowhere ≡ head_tests t
     countless_told c = sym (none_told true c.none_is)
 
-    module _ {count : Count} (c : CountRead t (Some count)) where
+    module _ {count : Count} (c : CountRead t (Ok count)) where
       out-is : strains_out count.strains ≡ strains_out (count_of t)
-      out-is = ap strains_out c.counted.strains_are ∙ cut-strains (count_of t)
+      out-is = ap strains_out c.strains_are ∙ cut-strains (count_of t)
 
       past-count : (b : Bool) → b ≡ strains_out count.strains → head_tests t ≡ counts false b (end_bad (behind_count t))
       past-count b e = none_told false c.none_is ∙ ap (λ (p : Bool). counts false p (end_bad (behind_count t))) (sym (e ∙ out-is))
@@ -70,21 +70,21 @@ module _ (t : List ℕ) where
 
       module _ (in_range : strains_out count.strains ≡ false) where
         past-strains : (b : Bool) → b ≡ end_bad (drop count.end t) → head_tests t ≡ test 17 b
-        past-strains b e = past-count false (sym in_range) ∙ ap (test 17) (sym (e ∙ ap end_bad c.counted.behind-is))
+        past-strains b e = past-count false (sym in_range) ∙ ap (test 17) (sym (e ∙ ap end_bad c.behind-is))
 
-        pub unended_told : EndRead t count.end None → fault 17 Nowhere ≡ head_tests t
+        pub unended_told : {at_fault : ℕ} → EndRead t count.end (Err at_fault) → fault 17 Nowhere ≡ head_tests t
         unended_told d = sym (past-strains true d.bad-is)
 
-        pub head_read : {rows : ℕ} → EndRead t count.end (Some rows) → HeadRead t (Ok (record { strains = count.strains; rows = rows }))
+        pub head_read : {rows : ℕ} → EndRead t count.end (Ok rows) → HeadRead t (Ok (record { strains = count.strains; rows = rows }))
         head_read d =
             let n = small_count (count_of t) (sym out-is ∙ in_range) in
-            let e : count.strains ≡ count_of t = c.counted.strains_are ∙ n.0 in record {
+            let e : count.strains ≡ count_of t = c.strains_are ∙ n.0 in record {
               answer = sym (past-strains false d.bad-is);
               opened = record {
                 count-is = e;
                 few = omega (arith, e, n.1);
-                within = d.next.0;
-                rows_are = d.next.1 ∙ ap next_line c.counted.behind-is;
+                within = d.within;
+                rows_are = d.next-is ∙ ap next_line c.behind-is;
               };
             }
 

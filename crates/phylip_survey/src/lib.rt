@@ -41,9 +41,13 @@ fn read_head(text: &[u8]) -> Result<Head, Refusal>
     ensures { HeadRead text.now result }
 {
     refusing::test(Reason::Text, text.len() > MAX_TEXT)?;
-    let count = phylip_lines::strain_count(text).ok_or(NOT_OF_THE_FORM)?;
+    let Ok(count) = phylip_lines::strain_count(text) else {
+        return Err(NOT_OF_THE_FORM);
+    };
     refusing::test(Reason::Strains, strains_out(count.strains))?;
-    let rows = phylip_lines::line_end(text, count.end).ok_or(NOT_OF_THE_FORM)?;
+    let Ok(rows) = phylip_lines::line_end(text, count.end) else {
+        return Err(NOT_OF_THE_FORM);
+    };
     Ok(Head {
         strains: count.strains as usize,
         rows,

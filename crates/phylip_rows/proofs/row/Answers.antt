@@ -14,8 +14,8 @@ cells-requires c = let w = name-within _ _ (sym c.name.ensures.bad-is ∙ c.if-n
 pub returns-in_err-read : goal.returns-in_err-read
 returns-in_err-read c = rw c.from_residual.ensures (row-no-cells _ _ _ _ _ _ c.name.ensures c.in_err-read.ensures)
 
-pub returns-in_err-end : goal.returns-in_err-end
-returns-in_err-end c = rw c.from_residual-in_err-end.ensures (row-no-end _ _ _ _ _ _ c.name.ensures c.in_ok-read.ensures c.in_err-end.ensures)
+pub returns-in-Err : goal.returns-in-Err
+returns-in-Err c = row-no-end _ _ _ _ _ _ c.name.ensures c.in_ok-read.ensures c.in-Err.ensures
 
-pub returns : goal.returns
-returns c = row_read _ _ _ _ _ _ c.name.ensures c.in_ok-read.ensures c.in_ok-end.ensures c.if-name.false
+pub returns-in-Ok : goal.returns-in-Ok
+returns-in-Ok c = row_read _ _ _ _ _ _ c.name.ensures c.in_ok-read.ensures c.in-Ok.ensures c.if-name.false
