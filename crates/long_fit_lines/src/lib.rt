@@ -63,7 +63,10 @@ fn print_numbers(
     let next = edge_lines(text, next, edges, d, digits, rounded);
     let next = long_lines::length_line(text, next, negative, levels, total);
     let next = long_lines::square_line(text, next, levels, f, r, h);
-    long_lines::mean_line(text, next, levels, f, over)
+    match over {
+        None => long_lines::mean_line(text, next, levels, f, None),
+        Some(digits) => long_lines::mean_line(text, next, levels, f, Some(&digits)),
+    }
 }
 
 // The whole print of a fit in digits, at the front of the buffer: `d` has the digits of D, `digits` those of the numerators.

@@ -1,7 +1,7 @@
 // The lines of a long print, but for those of the edges: fit or fit0, length, square, mean.
 #![tactic(auto)]
 
-ghost use Rattle.std.specs.Prelude.{◌≡◌, [], ◌∷◌, ℕ, ◌+◌, ◌≤◌, ◌<◌, pos, IfSome, length, get_or};
+ghost use Rattle.std.specs.Prelude.{◌≡◌, [], ◌∷◌, ℕ, ◌+◌, ◌≤◌, ◌<◌, pos, IfSome, option_copied, length, get_or};
 ghost use Rattle.std.specs.Int.Signed.{lt_z};
 ghost use Rattle.tree_theory.specs.Limits.{max_edges};
 ghost use Rattle.writing.specs.Text.{Wrote};
@@ -11,7 +11,6 @@ ghost use Rattle.long_theory.specs.Long.{long_denominator};
 ghost use Rattle.long_writing.specs.Decimals.{long_signed};
 ghost use Rattle.long_lines.specs.LongLines.{widest_line, Digits, wide_of, mean_by};
 
-use long_carrying::WIDE;
 use verdict::Rule;
 
 // The word of the rule, at the front of the buffer.
@@ -74,18 +73,18 @@ pub fn mean_line(
     at: usize,
     levels: usize,
     f: &[u32],
-    over: Option<[u32; WIDE]>,
+    over: Option<&[u32]>,
 ) -> usize
-    requires digits { Digits levels f.now × IfSome over (λ o. Digits levels o) }
+    requires digits { Digits levels f.now × IfSome (option_copied over) (λ o. Digits levels o) }
     requires room { at + widest_line ≤ length text.old }
-    ensures { Wrote text.old text.new at (mean_line_by long_signed (pos (natural levels (λ k. get_or f.now k 0))) (mean_by levels over)) result }
+    ensures { Wrote text.old text.new at (mean_line_by long_signed (pos (natural levels (λ k. get_or f.now k 0))) (mean_by levels (option_copied over))) result }
 {
     match over {
         None => writing::put_word(text, at, b"mean none\n"),
         Some(digits) => {
             let next = writing::put_word(text, at, b"mean");
             let next = long_fields::field(text, next, false, levels, f);
-            let next = long_fields::field(text, next, false, levels, &digits);
+            let next = long_fields::field(text, next, false, levels, digits);
             writing::put(text, next, b'\n')
         }
     }
