@@ -6,7 +6,7 @@ use Prim.Native.Nat.{ℕ}
 use lib.Signed.{clash_ℤ}
 use denote.Ref.{Bor}
 use Rattle.std.specs.Prelude.{Ok, Err}
-use Rattle.verdict.proofs.Answers.{same_refusal, not_pass}
+use Rattle.sheet.proofs.Laws.{same_refusal, not_pass}
 use Rattle.planner.specs.Compared.{Choice, Chosen}
 use Rattle.planner.specs.Part.{Part, Handed, won_by, Shorter}
 use Rattle.planner.specs.declared.Winner.TheVariants.{First, Second}

@@ -32,7 +32,7 @@ use Rattle.sheet.specs.declared.SheetFit.{SheetFit}
 use Rattle.sheet.specs.Reports.{SheetReport}
 use Rattle.sheet.proofs.Settled.{same-report}
 pub use Rattle.exact.proofs.Sign.{back}
-pub use Rattle.verdict.proofs.Answers.{LowestAtFault, same_answer, not_pass, passes, refused-row, accepted-row, or_else_pass, pass_or_else, test_at-pass, test-pass, pass-test}
+pub use Rattle.verdict.proofs.Answers.{LowestAtFault, same_answer, same_refusal, one_result, value_of, handed_on, not_pass, passes, refused-row, accepted-row, or_else_pass, pass_or_else, test_at-pass, test-pass, pass-test}
 pub use Rattle.mean.proofs.Divisor.{missing-none, three-none, four-over, none-three}
 pub use Rattle.fit_theory.proofs.Exactly.{stands→, →stands, posted→, →posted}
 pub use Rattle.fit_theory.proofs.Complete.{complete-parts, as_whole, complete-seen, complete-posted}

@@ -5,7 +5,7 @@ use mathlib.Core.List.{List}
 use Prim.Native.Nat.{ℕ}
 use Rattle.std.specs.Prelude.{Option, Some, None, Result}
 use Rattle.verdict.specs.declared.Refusal.{Refusal}
-use Rattle.verdict.proofs.Answers.{one_result}
+use Rattle.sheet.proofs.Laws.{one_result}
 use Rattle.writing.proofs.Settled.{settled}
 use Rattle.shortest_theory.specs.Run.{Winner, none, won, State, number_of, step}
 use Rattle.shortest_run.specs.declared.Best.{Best}

@@ -2,7 +2,7 @@
 use mathlib.Core.Path.{sym, ◌∙◌, ap}
 use native.Mathlib.Omega.{arith}
 use lib.IntN.{nat_abs}
-use Rattle.verdict.proofs.Answers.{handed_on}
+use Rattle.sheet.proofs.Laws.{handed_on}
 use Rattle.sheet.proofs.Laws.{back}
 use Rattle.planner.specs.Compared.{Chosen}
 use Rattle.planner.proofs.Choosing.{first-refused, second-refused, other-matrix, second-shorter, first-shorter}
