@@ -1,14 +1,16 @@
 -- What a look at every distance keeps from turn to turn.
-use mathlib.Core.Path.{◌≡◌, refl, sym, ◌∙◌, ap}
-use mathlib.Core.Bool.{Bool, true, false, not, ◌||◌}
+use mathlib.Core.Path.{◌≡◌, refl, sym, ◌∙◌, ap, ap₂}
+use mathlib.Core.Bool.{Bool, true, false, not, ◌&&◌, ◌||◌}
 use mathlib.Core.List.{List}
 use mathlib.Core.Logic.{◌≢◌}
 use Prim.Native.Nat.{ℕ, suc, ◌+◌, ◌<◌, ◌≤◌}
 use native.Mathlib.Numerals.{add-one}
+use native.Mathlib.Decide.{ℕ_discrete}
 use native.Mathlib.Omega.{arith}
 use borrow.Author.Tests.{lt-ltb, le-ltb, eq-eqb, ne_eqb}
 use lib.Dec.{eqb, ltb}
 use lib.ListN.{length, get_or}
+use Rattle.exact.proofs.Decide.{by_cases}
 use Rattle.verdict.specs.Table.{some}
 use Rattle.matrix.specs.Limits.{max_distance, missing}
 use Rattle.matrix.specs.Place.{is_measured, known, some_missing}
@@ -44,23 +46,29 @@ pub known-none : (x : ℕ) → is_measured x ≡ false → known x ≡ 0
 unfolding known
 known-none x e = rw e
 
--- a distance in its range is measured
-near-measured : (x : ℕ) → x ≤ max_distance → is_measured x ≡ true
-near-measured x h = ap not (ne_eqb x missing (omega arith))
-
 -- ---- of the first k: `out` says whether one is out of range, and `gone` whether one is missing
 pub record Looking (ds : List ℕ) (out gone : Bool) (k : ℕ) : Type 0 where
   pub here : k ≤ length ds
   pub out-is : out ≡ some k (λ i. ltb max_distance (known (get_or ds i 0)))
   pub gone-is : gone ≡ some k (λ i. not (is_measured (get_or ds i 0)))
 
-or-false : (b c : Bool) → c ≡ false → b ≡ b || c
-or-false true c e = refl
-or-false false c e = sym e
+and-false : (b : Bool) → (b && false) ≡ false
+and-false true = refl
+and-false false = refl
 
-or-true : (b c : Bool) → c ≡ true → true ≡ b || c
-or-true true c e = refl
-or-true false c e = sym e
+and-true : (b : Bool) → (b && true) ≡ b
+and-true true = refl
+and-true false = refl
+
+twice : (b : Bool) → b ≡ not (not b)
+twice true = refl
+twice false = refl
+
+-- above the limit and no mark is above the limit as a known distance
+above-is : (x : ℕ) → (ltb max_distance x && not (eqb x missing)) ≡ ltb max_distance (known x)
+above-is x = by_cases (ℕ_discrete x missing)
+    (λ e. ap (λ (b : Bool). ltb max_distance x && not b) (eq-eqb x missing e) ∙ and-false (ltb max_distance x) ∙ sym (le-ltb max_distance (known x) (omega (arith, known-missing x e))))
+    (λ n. ap (λ (b : Bool). ltb max_distance x && not b) (ne_eqb x missing n) ∙ and-true (ltb max_distance x) ∙ ap (ltb max_distance) (sym (known-measured x n)))
 
 module _ (ds : List ℕ) where
   pub look-start : Looking ds false false 0
@@ -74,20 +82,9 @@ module _ (ds : List ℕ) where
     unfolding some
     next out' gone' e f = record { here = omega arith; out-is = rw (add-one k) e; gone-is = rw (add-one k) f }
 
-    pub look-near : (out' gone' : Bool) → out' ≡ out → gone' ≡ gone → get_or ds k 0 ≤ max_distance → Looking ds out' gone' (k + 1)
-    look-near out' gone' e f h = let m = near-measured (get_or ds k 0) h in next out' gone'
-        (e ∙ t.out-is ∙ or-false (some k (λ i. ltb max_distance (known (get_or ds i 0)))) _ (le-ltb max_distance (known (get_or ds k 0)) (omega (arith, known_of (get_or ds k 0) m))))
-        (f ∙ t.gone-is ∙ or-false (some k (λ i. not (is_measured (get_or ds i 0)))) _ (ap not m))
-
-    pub look-missing : (out' gone' : Bool) → out' ≡ out → gone' ≡ true → get_or ds k 0 ≡ missing → Looking ds out' gone' (k + 1)
-    look-missing out' gone' e f h = next out' gone'
-        (e ∙ t.out-is ∙ or-false (some k (λ i. ltb max_distance (known (get_or ds i 0)))) _ (le-ltb max_distance (known (get_or ds k 0)) (omega (arith, known-missing (get_or ds k 0) h))))
-        (f ∙ or-true (some k (λ i. not (is_measured (get_or ds i 0)))) _ (ap not (is-missing (get_or ds k 0) h)))
-
-    pub look-out : (out' gone' : Bool) → out' ≡ true → gone' ≡ gone → max_distance < get_or ds k 0 → get_or ds k 0 ≢ missing → Looking ds out' gone' (k + 1)
-    look-out out' gone' e f h n = next out' gone'
-        (e ∙ or-true (some k (λ i. ltb max_distance (known (get_or ds i 0)))) _ (lt-ltb max_distance (known (get_or ds k 0)) (omega (arith, known-measured (get_or ds k 0) n))))
-        (f ∙ t.gone-is ∙ or-false (some k (λ i. not (is_measured (get_or ds i 0)))) _ (ap not (is-measured (get_or ds k 0) n)))
+    pub look-turn : (out' gone' : Bool) → out' ≡ out || (ltb max_distance (get_or ds k 0) && not (eqb (get_or ds k 0) missing)) → gone' ≡ gone || eqb (get_or ds k 0) missing
+        → Looking ds out' gone' (k + 1)
+    look-turn out' gone' e f = next out' gone' (e ∙ ap₂ ◌||◌ t.out-is (above-is (get_or ds k 0))) (f ∙ ap₂ ◌||◌ t.gone-is (twice (eqb (get_or ds k 0) missing)))
 
   pub look-end : (out gone : Bool) (k : ℕ) → Looking ds out gone k → length ds ≤ k → Looked ds out gone
   look-end out gone k t h = let e : k ≡ length ds = omega (arith, t.here) in record {

@@ -1,7 +1,7 @@
 // The matrix of distances: its limits, its tests, and where a pair of strains stands.
 #![tactic(auto)]
 
-ghost use Rattle.std.specs.Prelude.{◌≡◌, ◌≢◌, ◌+◌, ◌≤◌, ◌<◌, length, get_or};
+ghost use Rattle.std.specs.Prelude.{◌≡◌, ◌≢◌, ◌+◌, ◌≤◌, ◌<◌, not, ◌&&◌, eqb, ltb, length, get_or};
 ghost use Rattle.exact.specs.Table.{table};
 ghost use Rattle.verdict.specs.Answer.{answer_of};
 ghost use Rattle.matrix.specs.Limits.{min_strains, max_strains, max_distance, missing, max_pairs};
@@ -110,8 +110,15 @@ pub fn row_below(n: usize, i: usize, j: usize, row: usize) -> usize
     row + (n - i - 2)
 }
 
-// What a look at every distance shows: whether one is above its limit, and whether one is missing. No turn ends it, so that it goes through
-// several distances at once.
+// Whether a distance is above its limit; the mark of a missing pair is none.
+fn above(far: u16) -> bool
+    ensures { result ≡ (ltb max_distance far && not (eqb far missing)) }
+{
+    far > Matrix::MAX_DISTANCE && far != Matrix::MISSING
+}
+
+// What a look at every distance shows: whether one is above its limit, and whether one is missing. No turn ends it, and its
+// flags are gathered without a branch, so that it goes through several distances at once.
 #[derive(Clone, Copy)]
 struct Seen {
     out: bool,
@@ -124,13 +131,8 @@ fn look(distances: &[u16]) -> Seen
     let mut out = false;
     let mut missing = false;
     for far in distances {
-        if *far > Matrix::MAX_DISTANCE {
-            if *far == Matrix::MISSING {
-                missing = true;
-            } else {
-                out = true;
-            }
-        }
+        missing |= *far == Matrix::MISSING;
+        out |= above(*far);
     }
     Seen { out, missing }
 }
