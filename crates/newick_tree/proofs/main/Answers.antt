@@ -1,4 +1,4 @@
--- What is written ends within the filled.
+-- What is written ends within the page.
 use Rattle.writing.proofs.Writing.{wrote-within}
 use Rattle.newick_tree.proofs.main.Goals as goal
 
