@@ -77,7 +77,7 @@ pub fn mean_line(
 ) -> usize
     requires digits { Digits levels f.now × IfSome (option_copied over) (λ o. Digits levels o) }
     requires room { at + widest_line ≤ length text.old }
-    ensures { Wrote text.old text.new at (mean_line_by long_signed (pos (natural levels (λ k. get_or f.now k 0))) (mean_by levels (option_copied over))) result }
+    ensures { Wrote text.old text.new at (mean_line_by long_signed (pos (natural levels (λ k. get_or f.now k 0))) (mean_by levels (option_copied over.entry))) result }
 {
     match over {
         None => writing::put_word(text, at, b"mean none\n"),
