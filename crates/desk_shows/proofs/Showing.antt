@@ -1,5 +1,5 @@
--- A bench is shown the text of its table wherever its tests pass (`shown-is`): the report that a desk gives is that text (`report-shown`), and so
--- are the pairs (`pairs-shown`).
+-- A bench is shown the text of its table wherever its tests pass (`shown-is`): the numbers of the table that stands are that text
+-- (`numbers-shown`), so is the report that a desk gives (`report-shown`; of a refusal `none-reported`), and so are the pairs (`pairs-shown`).
 use mathlib.Core.Path.{◌≡◌, refl, sym, ◌∙◌, ap, ap₂, subst}
 use mathlib.Core.Bool.{Bool, true, false, cond, not}
 use mathlib.Core.List.{List, [], ◌∷◌, ◌++◌}
@@ -29,7 +29,8 @@ use Rattle.desk.specs.declared.Desk.{Desk}
 use Rattle.desk.specs.declared.Standing.{Standing}
 use Rattle.desk.specs.Held.{matrix_of, tree_of, numerators_of, posting_of, table_of, posted_of, desk_of, bench_table, standing_tests, PostedHeld, Held, IsStanding, StandsFor}
 use Rattle.desk.proofs.Holding.{buffer_tests, report-asked, standing-passed, bench-named, posted-held}
-use Rattle.desk_report.specs.Reports.{OnPosting}
+use Rattle.desk.proofs.Settled.{one-standing}
+use Rattle.desk_report.specs.Reports.{OnPosting, DeskReport}
 use Rattle.desk_pairs.specs.Pairs.{its_pairs, shown_pairs, pairs_on}
 use Rattle.desk_shows.specs.Shows.{edges_of, table_text, show_text, ShownReport}
 use Rattle.std.specs.Prelude.{Option, Some, None, Ok, Err}
@@ -89,14 +90,17 @@ module _ (d : Desk) (b : ℕ) where
     edges-size : length (tree_of s.posted.posting) ≡ s.posted.posting.edges
     edges-size = let p = held-there.posting in length-take-le s.posted.posting.edges s.posted.posting.parents (omega (arith, p.few-edges, p.room-edges))
 
+    edges_are : edges_of (desk_of d).posting ≡ s.posted.posting.edges
+    edges_are = ap (λ (p : Option Posted). edges_of (posted_of p).posting) g.standing.posted ∙ edges-size
+
     -- room for the rounded lengths at the front of a table of zeros
     pub front-size : (zeros : List ℤ) → zeros ≡ table max_edges (λ _. pos 0) → s.posted.posting.edges ≡ length (take s.posted.posting.edges zeros)
     front-size zeros e = sym (length-take-le s.posted.posting.edges zeros (let n = ap length e ∙ length-table max_edges (λ _. pos 0) in omega (arith, n, held-there.posting.few-edges)))
 
     module _ (zeros after : List ℤ) (blank : zeros ≡ table max_edges (λ _. pos 0)) where
-      pub report-shown : (back : List ℤ) (x : FitReport) → OnPosting s.posted.posting s.table after x
+      pub numbers-shown : (back : List ℤ) (x : FitReport) → OnPosting s.posted.posting s.table after x
           → ShownReport d b (Ok (record { report = x; numerators = s.table.numerators; rounded = after ++ back }))
-      report-shown back x p = record {
+      numbers-shown back x p = record {
         few = omega (arith, p.edges, edges-size, held-there.posting.few-edges);
         text = shown-is views.Report pass _ g.answer (λ e. of-table p ∙ named e);
       }
@@ -114,6 +118,18 @@ module _ (d : Desk) (b : ℕ) where
               (λ v l. sym (get_or-take y.edges s.table.numerators v (pos 0) (omega (arith, l, edges-size))))
               (λ v l. get_d_front after back v (let n = ap length p.rounded ∙ length-table (length (tree_of y)) (rounded_of s.table.d ns) in omega (arith, l, n))
               ∙ ap (λ (z : List ℤ). entry_of z v) p.rounded ∙ get_or_table (length (tree_of y)) (rounded_of s.table.d ns) (pos 0) v l)
+
+      -- the same of what the desk's report says of that room
+      size : calls.answer (desk_of d) (calls.report b (length (take s.posted.posting.edges zeros))) ≡ calls.answer (desk_of d) (calls.report b (edges_of (desk_of d).posting))
+      size = ap (λ (n : ℕ). calls.answer (desk_of d) (calls.report b n)) (sym (front-size zeros blank) ∙ sym edges_are)
+
+      pub none-reported : (q : Refusal) → DeskReport d b (take s.posted.posting.edges zeros) after (Err q) → ShownReport d b (Err q)
+      none-reported q r = record { few = tt; text = let e = r.answer ∙ size ∙ asked in shown-is views.Report (refusal_of q) [] e (λ p. absurd (not_pass q (e ∙ p))) }
+
+      pub report-shown : (back : List ℤ) (x : FitReport) → DeskReport d b (take s.posted.posting.edges zeros) after (Ok x)
+          → ShownReport d b (Ok (record { report = x; numerators = s.table.numerators; rounded = after ++ back }))
+      report-shown back x r = let (t, i, p) = r.reported in
+          numbers-shown back x (subst (λ (u : Standing). OnPosting u.posted.posting u.table after x) (one-standing d b t s i g.standing) p)
 
 -- what the match told was asked for
 pub shown_as : (d : calls.Desk) (v v' : View) (b : ℕ) (before after : List ℕ) (next : ℕ) → v ≡ v' → Wrote before after 0 (show_text d v' b) next → Wrote before after 0 (show_text d v b) next

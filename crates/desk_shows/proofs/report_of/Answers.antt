@@ -3,7 +3,7 @@ use mathlib.Core.Path.{sym}
 use Rattle.desk.proofs.Holding.{table-held}
 use Rattle.verdict.proofs.Answers.{handed_on}
 use Rattle.desk_shows.specs.Shows.{ShownReport}
-use Rattle.desk_shows.proofs.Showing.{none-stands, held-there, front-size, report-shown}
+use Rattle.desk_shows.proofs.Showing.{none-stands, held-there, front-size, numbers-shown}
 use Rattle.desk_shows.proofs.report_of.Goals as goal
 
 pub returns-in_err-standing : goal.returns-in_err-standing
@@ -17,4 +17,4 @@ numbers_of-report-requires c = let h = held-there c.args.desk c.args.bench c.req
 }
 
 pub returns : goal.returns
-returns c = report-shown c.args.desk c.args.bench c.requires _ c.in_ok-standing.ensures _ _ c.filled-rounded.ensures.throughout _ _ c.numbers_of-report.ensures
+returns c = numbers-shown c.args.desk c.args.bench c.requires _ c.in_ok-standing.ensures _ _ c.filled-rounded.ensures.throughout _ _ c.numbers_of-report.ensures
