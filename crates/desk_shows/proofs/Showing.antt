@@ -1,5 +1,6 @@
--- A bench is shown the text of its table wherever its tests pass (`shown-is`): the numbers of the table that stands are that text
--- (`numbers-shown`), so is the report that a desk gives (`report-shown`; of a refusal `none-reported`), and so are the pairs (`pairs-shown`).
+-- A bench is shown the text of its table wherever its tests pass (`shown-is`): the numbers of the table that stands are
+-- that text (`numbers-shown`), so is the report that a desk gives (`report-shown`; where it refuses, `none-reported`),
+-- and so are the pairs (`pairs-shown`).
 use mathlib.Core.Path.{◌≡◌, refl, sym, ◌∙◌, ap, ap₂, subst}
 use mathlib.Core.Bool.{Bool, true, false, cond, not}
 use mathlib.Core.List.{List, [], ◌∷◌, ◌++◌}
@@ -27,7 +28,8 @@ use Rattle.desk.specs.declared.Table.{Table}
 use Rattle.desk.specs.declared.Posted.{Posted}
 use Rattle.desk.specs.declared.Desk.{Desk}
 use Rattle.desk.specs.declared.Standing.{Standing}
-use Rattle.desk.specs.Held.{matrix_of, tree_of, numerators_of, posting_of, table_of, posted_of, desk_of, bench_table, standing_tests, PostedHeld, Held, IsStanding, StandsFor}
+use Rattle.desk.specs.Held.{matrix_of, tree_of, numerators_of, posting_of, table_of, posted_of, desk_of, bench_table}
+use Rattle.desk.specs.Held.{standing_tests, PostedHeld, Held, StandsFor}
 use Rattle.desk.proofs.Holding.{buffer_tests, report-asked, standing-passed, bench-named, posted-held}
 use Rattle.desk.proofs.Settled.{one-standing}
 use Rattle.desk_report.specs.Reports.{OnPosting, DeskReport}
@@ -80,8 +82,15 @@ module _ (d : Desk) (b : ℕ) where
   pairs-shown before after next w = subst (λ (s : List ℕ). Wrote before after 0 s next) (shown-is views.Pairs (standing_tests d b) (shown_pairs d.posted b) refl pairs_are) w
 
   -- ---- the report
+  -- what the tests refuse shows its refusal
+  refused-shown : (q : Refusal) → refusal_of q ≡ standing_tests d b → ShownReport d b (Err q)
+  refused-shown q e = record {
+    few = tt;
+    text = shown-is views.Report (refusal_of q) [] e (λ p. absurd (not_pass q (e ∙ p)));
+  }
+
   pub none-stands : (q : Refusal) → StandsFor d b (Err q) → ShownReport d b (Err q)
-  none-stands q g = record { few = tt; text = shown-is views.Report (refusal_of q) [] g.answer (λ e. absurd (not_pass q (g.answer ∙ e))) }
+  none-stands q g = refused-shown q g.answer
 
   module _ (h : Held d) (s : Standing) (g : StandsFor d b (Ok s)) where
     pub held-there : PostedHeld s.posted
@@ -120,16 +129,21 @@ module _ (d : Desk) (b : ℕ) where
               ∙ ap (λ (z : List ℤ). entry_of z v) p.rounded ∙ get_or_table (length (tree_of y)) (rounded_of s.table.d ns) (pos 0) v l)
 
       -- the same of what the desk's report says of that room
-      size : calls.answer (desk_of d) (calls.report b (length (take s.posted.posting.edges zeros))) ≡ calls.answer (desk_of d) (calls.report b (edges_of (desk_of d).posting))
-      size = ap (λ (n : ℕ). calls.answer (desk_of d) (calls.report b n)) (sym (front-size zeros blank) ∙ sym edges_are)
+      as-asked : calls.answer (desk_of d) (calls.report b (length (take s.posted.posting.edges zeros)))
+          ≡ standing_tests d b
+      as-asked = ap (λ (n : ℕ). calls.answer (desk_of d) (calls.report b n))
+          (sym (front-size zeros blank) ∙ sym edges_are) ∙ asked
 
-      pub none-reported : (q : Refusal) → DeskReport d b (take s.posted.posting.edges zeros) after (Err q) → ShownReport d b (Err q)
-      none-reported q r = record { few = tt; text = let e = r.answer ∙ size ∙ asked in shown-is views.Report (refusal_of q) [] e (λ p. absurd (not_pass q (e ∙ p))) }
+      pub none-reported : (q : Refusal) → DeskReport d b (take s.posted.posting.edges zeros) after (Err q)
+          → ShownReport d b (Err q)
+      none-reported q r = refused-shown q (r.answer ∙ as-asked)
 
-      pub report-shown : (back : List ℤ) (x : FitReport) → DeskReport d b (take s.posted.posting.edges zeros) after (Ok x)
+      pub report-shown : (back : List ℤ) (x : FitReport)
+          → DeskReport d b (take s.posted.posting.edges zeros) after (Ok x)
           → ShownReport d b (Ok (record { report = x; numerators = s.table.numerators; rounded = after ++ back }))
       report-shown back x r = let (t, i, p) = r.reported in
-          numbers-shown back x (subst (λ (u : Standing). OnPosting u.posted.posting u.table after x) (one-standing d b t s i g.standing) p)
+          numbers-shown back x (subst (λ (u : Standing). OnPosting u.posted.posting u.table after x)
+          (one-standing d b t s i g.standing) p)
 
 -- what the match told was asked for
 pub shown_as : (d : calls.Desk) (v v' : View) (b : ℕ) (before after : List ℕ) (next : ℕ) → v ≡ v' → Wrote before after 0 (show_text d v' b) next → Wrote before after 0 (show_text d v b) next

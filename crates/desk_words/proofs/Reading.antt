@@ -1,7 +1,8 @@
--- The first word from a place on, by positions: it is the letters behind the blanks (`first_word`), behind it stand the others
--- (`words-behind`), and there is none exactly where no letter stands there (`none_left`). Then what is read as a number: of the letters at a
--- place (`no-digits`, `word-goes-on`, `all_digits`), of a word (`number_read`, `number-from`, `number_found`), of a word that may have a minus
--- (`minus-read`, `plain-read`, `minus-from`, `plain-from`).
+-- The first word from a place on, by positions: it is the letters behind the blanks (`first_word`), behind it stand the
+-- others (`words-behind`), and there is none exactly where no letter stands there (`none_left`). Then what is read as a
+-- number: of the letters at a place (`no-digits`, `word-goes-on`, `all_digits`), of a word (`number_read`,
+-- `number-from`, `number_found`), of a word that may have a minus (`minus-read`, `plain-read`, `minus-from`,
+-- `plain-from`).
 use mathlib.Core.Path.{◌≡◌, refl, sym, ◌∙◌, ap, ap₂, subst}
 use mathlib.Core.Bool.{Bool, true, false, true≢false}
 use mathlib.Core.List.{List, [], ◌∷◌}
@@ -132,7 +133,8 @@ abbrev pub NumberFound : List ℕ → ℕ → Option (Parsed ℕ) → Type 0
 NumberFound s at r = ReadAs s (is_number (word_at 0 (words_at s at))) (at_most (value_of (word_at 0 (words_at s at)))) (end_at s at) r
 
 pub number_read : (s : List ℕ) (at : ℕ) (r : Option (Parsed ℕ)) → DigitsRead s (start_at s at) r → NumberFound s at r
-number_read s at r d = subst (λ (w : List ℕ). ReadAs s (is_number w) (at_most (value_of w)) (end_at s at) r) (first_word s at) d
+number_read s at r d = subst (λ (w : List ℕ). ReadAs s (is_number w) (at_most (value_of w)) (end_at s at) r)
+    (first_word s at) d
 
 pub number_found : (s : List ℕ) (at : ℕ) (r : Result (Parsed ℕ) ℕ) (o : Option (Parsed ℕ)) → NumberRead s at r → o ≡ result_ok r → NumberFound s at o
 number_found s at r o d e = subst (NumberFound s at) (sym e) (go r d)
@@ -224,7 +226,8 @@ module _ (s : List ℕ) (at : ℕ) (r : Option (Parsed ℕ)) where
 -- ---- the same, from the place that the blanks' end was found at
 module _ (s : List ℕ) (at start : ℕ) (r : Option (Parsed ℕ)) (e : start ≡ start_at s at) (h : start ≤ length s) where
   pub number-from : (o : Result (Parsed ℕ) ℕ) → DigitsRead s start r → o ≡ ok_or r start → NumberRead s at o
-  number-from o d g = subst (NumberRead s at) (sym g) (placed s at start _ _ r e h (number_read s at r (subst (λ (k : ℕ). DigitsRead s k r) e d)))
+  number-from o d g = subst (NumberRead s at) (sym g)
+      (placed s at start _ _ r e h (number_read s at r (subst (λ (k : ℕ). DigitsRead s k r) e d)))
 
   signed-from : (q : Option (Parsed ℤ)) (o : Result (Parsed ℤ) ℕ) (minus : Bool) → SignedFound s at (signed minus r) → q ≡ signed minus r → o ≡ ok_or q start → SignedRead s at o
   signed-from q o minus d f g = subst (SignedRead s at) (sym g) (placed s at start _ _ q e h (subst (SignedFound s at) (sym f) d))

@@ -17,4 +17,5 @@ numbers_of-report-requires c = let h = held-there c.args.desk c.args.bench c.req
 }
 
 pub returns : goal.returns
-returns c = numbers-shown c.args.desk c.args.bench c.requires _ c.in_ok-standing.ensures _ _ c.filled-rounded.ensures.throughout _ _ c.numbers_of-report.ensures
+returns c = numbers-shown c.args.desk c.args.bench c.requires _ c.in_ok-standing.ensures
+    _ _ c.filled-rounded.ensures.throughout _ _ c.numbers_of-report.ensures
